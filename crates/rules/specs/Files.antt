@@ -1,0 +1,303 @@
+-- 01, "Files": fields, their bodies, the reading of a case and of a book, and the table of a train.
+-- A file is the list of its bytes. Assumes nothing: these are definitions.
+use mathlib.Core.Bool.{Bool, true, false, not, _&&_, _||_, cond}
+use mathlib.Core.List.{List, [], _∷_, _++_, map}
+use Prim.Native.Nat.{ℕ, zero, suc, _+_, _-_, _*_, _/_}
+use lib.ListN.{length, getD, take, drop}
+use lib.Dec.{leb, ltb, eqb}
+use Rattle.rules.specs.Lists.{one, each, keep, any, sum, span, below, has}
+use Rattle.rules.specs.Refusals.{Fault, number, Rule, _when_, verdict, Result, refuse, then, unless}
+use Rattle.rules.specs.Refusals.Fault.{overrun, unknownTag, misplaced, wrongLength, wrongCount, outOfRange, wrongEnds, wrongPath, wrongTimes, wrongTable, noTable}
+use Rattle.rules.specs.Refusals.Result.{answer}
+
+-- ---- what the fields hold
+
+pub record Head : Type 0 where
+  pub lastMinute : ℕ
+  pub safety : ℕ
+  pub room : ℕ
+
+pub record Track : Type 0 where
+  pub from : ℕ
+  pub to : ℕ
+  pub capacity : ℕ
+
+pub record Stop : Type 0 where
+  pub station : ℕ
+  pub arrival : ℕ
+  pub departure : ℕ
+
+-- a train has, besides what its field says, the offset of that field
+pub record Train : Type 0 where
+  pub place : ℕ
+  pub priority : ℕ
+  pub type : ℕ
+  pub stops : List Stop
+
+pub record Pair : Type 0 where
+  pub delay : ℕ
+  pub weight : ℕ
+
+pub record Table : Type 0 where
+  pub type : ℕ
+  pub pairs : List Pair
+
+-- what a file holds so far, each kind in the order of its fields; `tag` is the last field's, 0 before the first
+pub record Contents : Type 0 where
+  pub tag : ℕ
+  pub head : Head
+  pub stations : List ℕ
+  pub tracks : List Track
+  pub trains : List Train
+  pub tables : List Table
+
+-- ---- bodies: numbers are big-endian
+
+abbrev pub byte : List ℕ → ℕ → ℕ
+byte b i = getD b i 0
+
+abbrev pub word : List ℕ → ℕ → ℕ
+word b i = byte b i * 256 + byte b (i + 1)
+
+-- last minute T (2), safety time (1), room (2)
+unfoldable pub headOf : List ℕ → Head
+headOf b = record { lastMinute = word b 0; safety = byte b 2; room = word b 3 }
+
+-- from (1), to (1), capacity (1)
+unfoldable pub trackOf : List ℕ → Track
+trackOf b = record { from = byte b 0; to = byte b 1; capacity = byte b 2 }
+
+-- station (1), arrival (2), departure (2)
+unfoldable pub stopOf : List ℕ → Stop
+stopOf b = record { station = byte b 0; arrival = word b 1; departure = word b 3 }
+
+-- priority (1), type (1), then the stops
+unfoldable pub trainOf : ℕ → List ℕ → Train
+trainOf at b = record {
+  place = at;
+  priority = byte b 0;
+  type = byte b 1;
+  stops = map (λ k. stopOf (drop (2 + 5 * k) b)) (below ((length b - 2) / 5));
+}
+
+-- delay (1), weight (1)
+unfoldable pub pairOf : List ℕ → Pair
+pairOf b = record { delay = byte b 0; weight = byte b 1 }
+
+-- type (1), then the pairs
+unfoldable pub tableOf : List ℕ → Table
+tableOf b = record { type = byte b 0; pairs = map (λ k. pairOf (drop (1 + 2 * k) b)) (below ((length b - 1) / 2)) }
+
+-- ---- which fields there may be
+
+pub data File : Type 0 where
+  case : File
+  book : File
+
+abbrev pub fileNumber : File → ℕ
+fileNumber case = 0
+fileNumber book = 1
+
+unfoldable pub known : ℕ → Bool
+known tag = has (1 ∷ 2 ∷ 3 ∷ 4 ∷ 5 ∷ []) tag
+
+-- by tag: head, station, track, train, delay table
+abbrev pub byTag {ℓ} : {A : Type ℓ} → ℕ → A → A → A → A → A → A
+byTag tag h s r t d = cond (eqb tag 1) h (cond (eqb tag 2) s (cond (eqb tag 3) r (cond (eqb tag 4) t d)))
+
+-- a case has one head, first, and tags never fall; a book has tag 5 only
+unfoldable pub inPlace : File → Contents → ℕ → Bool
+inPlace case c tag = cond (eqb (c .tag) 0) (eqb tag 1) (not (eqb tag 1) && leb (c .tag) tag)
+inPlace book c tag = eqb tag 5
+
+-- a train has 2 to 8 stops, a table 1 to 8 pairs
+unfoldable pub lengths : ℕ → List ℕ
+lengths tag = byTag tag (5 ∷ []) (1 ∷ []) (3 ∷ []) (map (λ n. 2 + 5 * n) (span 7 2)) (map (λ n. 1 + 2 * n) (span 8 1))
+
+abbrev pub mostTrains : ℕ
+mostTrains = 7
+
+-- how many fields of a tag there may be, and how many there are
+unfoldable pub most : ℕ → ℕ
+most tag = byTag tag 1 24 40 mostTrains 8
+
+unfoldable pub howMany : Contents → ℕ → ℕ
+howMany c tag = byTag tag 0 (length (c .stations)) (length (c .tracks)) (length (c .trains)) (length (c .tables))
+
+-- ---- what is sound in a body
+
+abbrev pub notIn : ℕ → ℕ → ℕ → Bool
+notIn low high n = ltb n low || ltb high n
+
+unfoldable pub headRules : Head → List Rule
+headRules h = outOfRange when (notIn 1 719 (h .lastMinute) || notIn 0 30 (h .safety) || notIn 1 1024 (h .room)) ∷ []
+
+unfoldable pub stationRules : ℕ → List Rule
+stationRules capacity = outOfRange when notIn 1 255 capacity ∷ []
+
+unfoldable pub unknown : Contents → ℕ → Bool
+unknown c station = leb (length (c .stations)) station
+
+-- the track leads from one station to the other
+unfoldable pub leads : ℕ → ℕ → Track → Bool
+leads from to r = eqb (r .from) from && eqb (r .to) to
+
+unfoldable pub trackRules : Contents → Track → List Rule
+trackRules c r =
+    outOfRange when notIn 1 255 (r .capacity)
+    ∷ wrongEnds when (unknown c (r .from) || unknown c (r .to) || eqb (r .from) (r .to) || any (leads (r .from) (r .to)) (c .tracks))
+    ∷ []
+
+-- a step from a stop to the next one breaks the rule
+abbrev pub anyStep : (Stop → Stop → Bool) → List Stop → Bool
+anyStep broken [] = false
+anyStep broken (a ∷ []) = false
+anyStep broken (a ∷ (b ∷ l)) = broken a b || anyStep broken (b ∷ l)
+
+-- one stands twice in the list
+abbrev pub repeats : List ℕ → Bool
+repeats [] = false
+repeats (a ∷ l) = has l a || repeats l
+
+-- a path repeats no station, and each step of it has a track
+unfoldable pub pathBroken : Contents → List Stop → Bool
+pathBroken c stops =
+    any (λ s. unknown c (s .station)) stops
+    || repeats (map (λ s. s .station) stops)
+    || anyStep (λ a b. not (any (leads (a .station) (b .station)) (c .tracks))) stops
+
+-- the last stop of a path
+abbrev pub lastOf : List Stop → Stop
+lastOf [] = record { station = 0; arrival = 0; departure = 0 }
+lastOf (a ∷ []) = a
+lastOf (a ∷ (b ∷ l)) = lastOf (b ∷ l)
+
+-- arrival ≤ departure at a stop, departure < next arrival, last departure ≤ T
+unfoldable pub timesBroken : Contents → List Stop → Bool
+timesBroken c stops =
+    any (λ s. ltb (s .departure) (s .arrival)) stops
+    || anyStep (λ a b. leb (b .arrival) (a .departure)) stops
+    || ltb (c .head .lastMinute) (lastOf stops .departure)
+
+unfoldable pub trainRules : Contents → Train → List Rule
+trainRules c t = wrongPath when pathBroken c (t .stops) ∷ wrongTimes when timesBroken c (t .stops) ∷ []
+
+-- each is below the next
+abbrev pub rising : List ℕ → Bool
+rising [] = true
+rising (a ∷ []) = true
+rising (a ∷ (b ∷ l)) = ltb a b && rising (b ∷ l)
+
+-- delays rise strictly, each weight is at least 1, the weights sum to 100, and types rise strictly within a file
+unfoldable pub tableRules : Contents → Table → List Rule
+tableRules c d =
+    wrongTable when (not (rising (map (λ p. p .delay) (d .pairs)))
+    || any (λ p. eqb (p .weight) 0) (d .pairs)
+    || not (eqb (sum (λ p. p .weight) (d .pairs)) 100)
+    || any (λ e. leb (d .type) (e .type)) (c .tables))
+    ∷ []
+
+unfoldable pub bodyRules : Contents → ℕ → ℕ → List ℕ → List Rule
+bodyRules c at tag b =
+    byTag tag (headRules (headOf b)) (stationRules (byte b 0)) (trackRules c (trackOf b)) (trainRules c (trainOf at b)) (tableRules c (tableOf b))
+
+-- ---- reading
+
+-- a field at the front of the bytes: one byte tag, two bytes length, body
+abbrev pub size : List ℕ → ℕ
+size l = word l 1
+
+abbrev pub body : List ℕ → List ℕ
+body l = take (size l) (drop 3 l)
+
+-- the rules of the field at offset `at`, where the bytes l stand, in 01's order
+unfoldable pub fieldRules : File → Contents → ℕ → List ℕ → List Rule
+fieldRules f c at l =
+    overrun when ltb (length l) 3
+    ∷ unknownTag when not (known (byte l 0))
+    ∷ misplaced when not (inPlace f c (byte l 0))
+    ∷ wrongLength when not (has (lengths (byte l 0)) (size l))
+    ∷ overrun when ltb (length l) (3 + size l)
+    ∷ wrongCount when leb (most (byte l 0)) (howMany c (byte l 0))
+    ∷ bodyRules c at (byte l 0) (body l)
+
+-- what the file holds with one field more
+unfoldable pub more : Contents → ℕ → ℕ → List ℕ → Contents
+more c at tag b = record {
+  tag = tag;
+  head = byTag tag (headOf b) (c .head) (c .head) (c .head) (c .head);
+  stations = c .stations ++ one (eqb tag 2) (byte b 0);
+  tracks = c .tracks ++ one (eqb tag 3) (trackOf b);
+  trains = c .trains ++ one (eqb tag 4) (trainOf at b);
+  tables = c .tables ++ one (eqb tag 5) (tableOf b);
+}
+
+-- at the end of a case, no head, station or train
+unfoldable pub endRules : File → Contents → List Rule
+endRules case c = wrongCount when (eqb (c .tag) 0 || eqb (length (c .stations)) 0 || eqb (length (c .trains)) 0) ∷ []
+endRules book c = []
+
+-- the field at the front, and `go` reads those after it; or the end of the file
+unfoldable pub readField : (ℕ → List ℕ → Contents → Result Contents) → File → ℕ → List ℕ → Contents → Result Contents
+readField go f at [] c = unless (verdict (endRules f c)) (fileNumber f) at answer c
+readField go f at (b ∷ l) c =
+    unless (verdict (fieldRules f c at (b ∷ l))) (fileNumber f) at
+    (go (at + (3 + size (b ∷ l))) (drop (3 + size (b ∷ l)) (b ∷ l)))
+    (more c at b (body (b ∷ l)))
+
+-- fields are read one after another; the first that isn't sound ends the reading
+unfoldable pub readFields : ℕ → File → ℕ → List ℕ → Contents → Result Contents
+readFields zero f at l c = answer c
+readFields (suc n) f at l c = readField (readFields n f) f at l c
+
+abbrev pub empty : Contents
+empty = record {
+  tag = 0;
+  head = record { lastMinute = 0; safety = 0; room = 0 };
+  stations = [];
+  tracks = [];
+  trains = [];
+  tables = [];
+}
+
+-- a field has at least three bytes, so the end is met before as many turns as there are bytes, and one, are over
+unfoldable pub read : File → List ℕ → Result Contents
+read f l = readFields (suc (length l)) f 0 l empty
+
+-- ---- case and book together
+
+-- a sound case: each train has the pairs of its table
+pub record Case : Type 0 where
+  pub head : Head
+  pub stations : List ℕ
+  pub tracks : List Track
+  pub trains : List Train
+  pub tables : List (List Pair)
+
+-- the tables of the type: the one in the case comes first, and is used; otherwise the one in the book
+unfoldable pub tablesOf : Contents → Contents → ℕ → List Table
+tablesOf c k type = keep (λ d. eqb (d .type) type) (c .tables ++ k .tables)
+
+abbrev pub firstPairs : List Table → List Pair
+firstPairs [] = []
+firstPairs (d ∷ l) = d .pairs
+
+-- 11 by train number: the place is the train field's offset
+abbrev pub lacking : List (List Table) → List Train → Case → Result Case
+lacking [] ts C = answer C
+lacking (ds ∷ dss) [] C = answer C
+lacking ([] ∷ dss) (t ∷ ts) C = refuse (number noTable) 0 (t .place)
+lacking ((d ∷ ds) ∷ dss) (t ∷ ts) C = lacking dss ts C
+
+unfoldable pub caseOf : Contents → Contents → Case
+caseOf c k = record {
+  head = c .head;
+  stations = c .stations;
+  tracks = c .tracks;
+  trains = c .trains;
+  tables = map (λ t. firstPairs (tablesOf c k (t .type))) (c .trains);
+}
+
+-- the case, then the book likewise, then 11
+unfoldable pub files : List ℕ → List ℕ → Result Case
+files cs bk = then (read case cs) (λ c. then (read book bk) (λ k. lacking (map (λ t. tablesOf c k (t .type)) (c .trains)) (c .trains) (caseOf c k)))

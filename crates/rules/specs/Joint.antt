@@ -1,0 +1,155 @@
+-- 01, "The joint run": all choices of delays together, entry by entry. Assumes nothing: these are definitions.
+use mathlib.Core.Bool.{Bool, true, false, not, _&&_, _||_, cond}
+use mathlib.Core.List.{List, [], _∷_, _++_, map}
+use Prim.Native.Nat.{ℕ, zero, suc, _+_, _-_, _*_, _^_}
+use lib.ListN.{length, getD, set}
+use lib.Dec.{leb, ltb, eqb}
+use Rattle.rules.specs.Lists.{one, each, keep, any, sum, below, has}
+use Rattle.rules.specs.Refusals.{Fault, Rule, _when_, verdict}
+use Rattle.rules.specs.Refusals.Fault.{noRoom, tooHeavy}
+use Rattle.rules.specs.Files.{Head, Stop, Train, Pair, Case}
+use Rattle.rules.specs.Turns.{Place, same, Mark, capacity, entered, arriving, Served, served, State, Rules, runFrom}
+use Rattle.rules.specs.Turns.Place.{gone}
+use Rattle.rules.specs.Single.{pairAt, waits}
+
+-- ---- covers
+
+-- a set of a train's delays: their indices, rising; a cover: for each train a set
+abbrev pub Cover : Type 0
+Cover = List (List ℕ)
+
+-- the delays that two sets have in common
+unfoldable pub common : List ℕ → List ℕ → List ℕ
+common s u = keep (has u) s
+
+-- what a set loses of its delays
+unfoldable pub without : List ℕ → List ℕ → List ℕ
+without s u = keep (λ d. not (has u d)) s
+
+abbrev pub isEmpty : List ℕ → Bool
+isEmpty [] = true
+isEmpty (d ∷ s) = false
+
+-- the common part of two covers, train by train
+unfoldable pub inside : Cover → Cover → Cover
+inside [] q = []
+inside (s ∷ p) [] = []
+inside (s ∷ p) (u ∷ q) = common s u ∷ inside p q
+
+-- no common choice: some train's set is empty
+unfoldable pub apart : Cover → Bool
+apart p = any isEmpty p
+
+-- the outside pieces of p by its common part c, by rising train number k: sets before k are the common ones, set k loses the common delays
+-- (skipped if nothing is left), sets after k are the piece's own
+unfoldable pub outsides : Cover → Cover → List Cover
+outsides [] c = []
+outsides (s ∷ p) [] = []
+outsides (s ∷ p) (u ∷ c) = one (not (isEmpty (without s u))) (without s u ∷ p) ++ map (λ q. u ∷ q) (outsides p c)
+
+-- the choices that a cover covers: one delay from each set
+unfoldable pub choicesIn : Cover → List (List ℕ)
+choicesIn [] = [] ∷ []
+choicesIn (s ∷ p) = each (λ d. map (λ x. d ∷ x) (choicesIn p)) s
+
+unfoldable pub covers : Cover → List ℕ → Bool
+covers [] [] = true
+covers [] (d ∷ x) = false
+covers (s ∷ p) [] = false
+covers (s ∷ p) (d ∷ x) = has s d && covers p x
+
+-- each train's set is whole
+unfoldable pub whole : Case → Cover
+whole C = map (λ pairs. below (length pairs)) (C .tables)
+
+unfoldable pub choices : Case → List (List ℕ)
+choices C = choicesIn (whole C)
+
+-- the weight of a choice, from train k on: the product of the weights
+abbrev pub weightFrom : Case → ℕ → List ℕ → ℕ
+weightFrom C k [] = 1
+weightFrom C k (d ∷ x) = pairAt C k d .weight * weightFrom C (suc k) x
+
+unfoldable pub weightOf : Case → List ℕ → ℕ
+weightOf C x = weightFrom C 0 x
+
+-- an entry's weight is the sum of the weights of the choices it covers
+unfoldable pub weight : Case → Cover → ℕ
+weight C p = sum (weightOf C) (choicesIn p)
+
+-- all choices of n trains together weigh 100^n
+unfoldable pub total : Case → ℕ
+total C = 100 ^ length (C .trains)
+
+-- ---- entries
+
+pub record Entry : Type 0 where
+  pub mark : Mark
+  pub cover : Cover
+
+abbrev pub entry : Mark → Cover → Entry
+entry m p = record { mark = m; cover = p }
+
+-- one entry per train and delay, by train, then delay; other trains' sets are whole
+unfoldable pub firstList : Case → List Entry
+firstList C =
+    each (λ k. map (λ d. entry (waits C k d) (set (whole C) k (d ∷ []))) (below (length (getD (C .tables) k [])))) (below (length (C .trains)))
+
+-- ---- the cutting rule
+
+-- a piece of a cover, held or entering
+pub record Piece : Type 0 where
+  pub cover : Cover
+  pub held : Bool
+
+abbrev pub piece : Cover → Bool → Piece
+piece p h = record { cover = p; held = h }
+
+-- one turn of a piece p: whether its count has reached the capacity, whether its count and the entries still to meet stay below it, and whether
+-- it has no common choice with the next; `on` carries a piece with its count through the entries after the next
+abbrev pub cut : Bool → Bool → Bool → (ℕ → Cover → List Piece) → ℕ → Cover → Cover → List Piece
+cut true few none on n p c = piece p true ∷ []
+cut false true none on n p c = piece p false ∷ []
+cut false false true on n p c = on n p
+cut false false false on n p c = on (suc n) c ++ each (on n) (outsides p c)
+
+-- the piece p with count n, carried through the covers still to meet
+unfoldable pub carry : ℕ → List Cover → ℕ → Cover → List Piece
+carry cap [] n p = piece p (leb cap n) ∷ []
+carry cap (q ∷ qs) n p = cut (leb cap n) (ltb (n + suc (length qs)) cap) (apart (inside p q)) (carry cap qs) n p (inside p q)
+
+-- the entries of other trains that stand on or block the element, in list order
+unfoldable pub meets : Place → ℕ → List Entry → List Cover
+meets e k rs = each (λ r. one (not (eqb (r .mark .train) k) && same (r .mark .place) e) (r .cover)) rs
+
+-- a piece starts as the whole cover with count 0; the way out has no limit
+unfoldable pub pieces : Case → Place → List Entry → Entry → List Piece
+pieces C e rs r =
+    cond (same e gone) (piece (r .cover) false ∷ []) (carry (capacity C e) (meets e (r .mark .train) rs) 0 (r .cover))
+
+-- held pieces replace the asking entry in its row, minute unchanged; then each entering piece adds at the end its standing entry and its block
+unfoldable pub serveEntry : Case → ℕ → Place → List Entry → Entry → Served Entry
+serveEntry C t e rs r =
+    let ps = pieces C e rs r in
+    let entering = keep (λ q. not (q .held)) ps in
+    served
+    (map (λ q. entry (r .mark) (q .cover)) (keep (λ q. q .held) ps))
+    (each (λ q. map (λ m. entry m (q .cover)) (entered C t e (r .mark))) entering)
+    (each (λ q. map (λ m. entry m (q .cover)) (arriving C t e (r .mark))) entering)
+
+-- 12: the list has more entries than the room; 13: weight of an entry passes 10^14
+unfoldable pub checkList : Case → List Entry → ℕ
+checkList C rs =
+    verdict (noRoom when ltb (C .head .room) (length rs) ∷ tooHeavy when any (λ r. ltb (10 ^ 14) (weight C (r .cover))) rs ∷ [])
+
+unfoldable pub jointRules : Case → Rules Entry
+jointRules C = record { mark = λ r. r .mark; serve = serveEntry C; check = checkList C }
+
+-- the joint run after minute m
+unfoldable pub joint : Case → ℕ → State Entry
+joint C m = runFrom C (jointRules C) (firstList C) m
+
+-- the weight that has arrived for train k in minute t
+unfoldable pub weightAt : Case → List Entry → ℕ → ℕ → ℕ
+weightAt C arrived k t =
+    sum (λ r. weight C (r .cover)) (keep (λ r. eqb (r .mark .train) k && eqb (r .mark .minute) t) arrived)

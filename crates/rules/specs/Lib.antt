@@ -1,0 +1,10 @@
+pub mod Lists
+pub mod Refusals
+pub mod Files
+pub mod Turns
+pub mod Single
+pub mod Joint
+pub mod Listing
+pub mod Figures
+pub mod Calls
+pub mod Points

@@ -1,0 +1,54 @@
+-- 01, "The single run": one choice of delays, minute by minute from 0 to T. Assumes nothing: these are definitions.
+use mathlib.Core.Bool.{Bool, true, false, not, _&&_, _||_, cond}
+use mathlib.Core.List.{List, [], _∷_, _++_, map}
+use mathlib.Core.Option.{Option, none, some}
+use Prim.Native.Nat.{ℕ, zero, suc, _+_, _*_}
+use lib.ListN.{length, getD}
+use lib.Dec.{leb, ltb, eqb}
+use Rattle.rules.specs.Lists.{one, each, keep, any, count, below}
+use Rattle.rules.specs.Files.{Head, Stop, Train, Pair, Case}
+use Rattle.rules.specs.Turns.{Place, same, Mark, stands, trainAt, capacity, entered, arriving, Served, served, State, Rules, runFrom}
+use Rattle.rules.specs.Turns.Place.{outside, station, track, gone}
+
+-- a choice takes one pair from each train's table: it is the list of their indices, counted from 0
+abbrev pub pairAt : Case → ℕ → ℕ → Pair
+pairAt C k i = getD (getD (C .tables) k []) i (record { delay = 0; weight = 0 })
+
+abbrev pub firstArrival : List Stop → ℕ
+firstArrival [] = 0
+firstArrival (a ∷ l) = a .arrival
+
+-- train k waits outside, due at its first arrival plus its delay
+unfoldable pub waits : Case → ℕ → ℕ → Mark
+waits C k i = stands k outside (firstArrival (trainAt C k .stops) + pairAt C k i .delay)
+
+unfoldable pub firstMarks : Case → List ℕ → List Mark
+firstMarks C x = map (λ k. waits C k (getD x k 0)) (below (length (C .trains)))
+
+-- how many trains stand on or block the element
+unfoldable pub trainsOn : Case → Place → List Mark → ℕ
+trainsOn C e ms = count (λ k. any (λ m. eqb (m .train) k && same (m .place) e) ms) (below (length (C .trains)))
+
+-- 3. a train enters if fewer trains stand on or block the element than its capacity; the way out has no limit
+unfoldable pub enters : Case → Place → List Mark → Bool
+enters C e ms = same e gone || ltb (trainsOn C e ms) (capacity C e)
+
+unfoldable pub serveTrain : Case → ℕ → Place → List Mark → Mark → Served Mark
+serveTrain C t e ms m =
+    cond (enters C e ms) (served [] (entered C t e m) (arriving C t e m)) (served (m ∷ []) [] [])
+
+-- the single run refuses no list
+unfoldable pub singleRules : Case → Rules Mark
+singleRules C = record { mark = λ m. m; serve = serveTrain C; check = λ ms. 0 }
+
+-- the trains and blocks after minute t, and the arrivals so far
+unfoldable pub single : Case → List ℕ → ℕ → State Mark
+single C x t = runFrom C (singleRules C) (firstMarks C x) t
+
+abbrev pub minuteOf : ℕ → List Mark → Option ℕ
+minuteOf k [] = none
+minuteOf k (m ∷ ms) = cond (eqb (m .train) k) (some (m .minute)) (minuteOf k ms)
+
+-- a train's minute of arrival, or none by T
+unfoldable pub arrival : Case → List ℕ → ℕ → Option ℕ
+arrival C x k = minuteOf k (single C x (C .head .lastMinute) .arrived)

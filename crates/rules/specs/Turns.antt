@@ -1,0 +1,233 @@
+-- 01, "The single run", steps 1 to 4: what a minute is made of, for the single run and for the joint run, whose "minutes, elements and order are as above".
+-- A run is over a list of items that each show a mark: one train standing or blocking. Assumes nothing: these are definitions.
+use mathlib.Core.Bool.{Bool, true, false, not, _&&_, _||_, cond}
+use mathlib.Core.List.{List, [], _∷_, _++_, map}
+use Prim.Native.Nat.{ℕ, zero, suc, _+_, _-_}
+use lib.ListN.{length, getD}
+use lib.Dec.{leb, ltb, eqb}
+use Rattle.rules.specs.Lists.{one, each, keep, any, fold, below}
+use Rattle.rules.specs.Refusals.{firstOf}
+use Rattle.rules.specs.Files.{Head, Track, Stop, Train, Pair, Case, leads, lastOf}
+
+-- ---- places and marks
+
+pub data Place : Type 0 where
+  outside : Place
+  station : ℕ → Place
+  track : ℕ → Place
+  gone : Place
+
+abbrev pub kindOf : Place → ℕ
+kindOf outside = 0
+kindOf (station i) = 1
+kindOf (track j) = 2
+kindOf gone = 3
+
+abbrev pub numberOf : Place → ℕ
+numberOf outside = 0
+numberOf (station i) = i
+numberOf (track j) = j
+numberOf gone = 0
+
+unfoldable pub same : Place → Place → Bool
+same p q = eqb (kindOf p) (kindOf q) && eqb (numberOf p) (numberOf q)
+
+-- a train, a place, standing or blocking, and a minute (due, or end of block)
+pub record Mark : Type 0 where
+  pub train : ℕ
+  pub place : Place
+  pub blocks : Bool
+  pub minute : ℕ
+
+abbrev pub stands : ℕ → Place → ℕ → Mark
+stands k p t = record { train = k; place = p; blocks = false; minute = t }
+
+abbrev pub block : ℕ → Place → ℕ → Mark
+block k p t = record { train = k; place = p; blocks = true; minute = t }
+
+-- ---- the way of a train
+
+abbrev pub absent : Train
+absent = record { place = 0; priority = 0; type = 0; stops = [] }
+
+abbrev pub trainAt : Case → ℕ → Train
+trainAt C k = getD (C .trains) k absent
+
+-- an element of a train's way, and the planned minutes on it
+pub record Leg : Type 0 where
+  pub place : Place
+  pub planned : ℕ
+
+abbrev pub leg : Place → ℕ → Leg
+leg p n = record { place = p; planned = n }
+
+-- the number of the track from one station to the other
+abbrev pub trackFrom : ℕ → ℕ → List Track → ℕ
+trackFrom a b [] = 0
+trackFrom a b (r ∷ l) = cond (leads a b r) 0 (suc (trackFrom a b l))
+
+-- station, track, station, .., last station, the way out
+abbrev pub legs : List Track → List Stop → List Leg
+legs ts [] = []
+legs ts (a ∷ []) = leg (station (a .station)) (a .departure - a .arrival) ∷ leg gone 0 ∷ []
+legs ts (a ∷ (b ∷ l)) =
+    leg (station (a .station)) (a .departure - a .arrival)
+    ∷ leg (track (trackFrom (a .station) (b .station) ts)) (b .arrival - a .departure)
+    ∷ legs ts (b ∷ l)
+
+unfoldable pub way : Case → ℕ → List Leg
+way C k = legs (C .tracks) (trainAt C k .stops)
+
+abbrev pub after : Place → List Leg → List Leg
+after p [] = []
+after p (l ∷ ls) = cond (same (l .place) p) ls (after p ls)
+
+-- the elements before a train at a place, the next one first
+unfoldable pub ahead : Case → ℕ → Place → List Leg
+ahead C k p = cond (same p outside) (way C k) (after p (way C k))
+
+abbrev pub headIs : Place → List Leg → Bool
+headIs e [] = false
+headIs e (l ∷ ls) = same (l .place) e
+
+abbrev pub plannedOn : Place → List Leg → ℕ
+plannedOn e [] = 0
+plannedOn e (l ∷ ls) = cond (same (l .place) e) (l .planned) (plannedOn e ls)
+
+-- a train arrives where it enters its last station
+unfoldable pub lastStation : Case → ℕ → Place
+lastStation C k = station (lastOf (trainAt C k .stops) .station)
+
+-- stations by number, then tracks by number, then the way out
+unfoldable pub elements : Case → List Place
+elements C = map station (below (length (C .stations))) ++ map track (below (length (C .tracks))) ++ (gone ∷ [])
+
+-- the capacity of a station or a track
+unfoldable pub capacity : Case → Place → ℕ
+capacity C outside = 0
+capacity C (station i) = getD (C .stations) i 0
+capacity C (track j) = getD (map (λ r. r .capacity) (C .tracks)) j 0
+capacity C gone = 0
+
+-- ---- what happens in a minute
+
+-- 1. blocks whose end is before t go
+unfoldable pub ended : ℕ → Mark → Bool
+ended t m = m .blocks && ltb (m .minute) t
+
+-- 2. a train outside or on the element before e, whose next element it is and whose due minute is ≤ t, asks
+unfoldable pub asks : Case → ℕ → Place → Mark → Bool
+asks C t e m = not (m .blocks) && headIs e (ahead C (m .train) (m .place)) && leb (m .minute) t
+
+-- in order of priority, then train number
+unfoldable pub sooner : Case → Mark → Mark → Bool
+sooner C a b =
+    let p = trainAt C (a .train) .priority in
+    let q = trainAt C (b .train) .priority in
+    ltb p q || (eqb p q && ltb (a .train) (b .train))
+
+-- 4. entering a station it is due again after its planned stop there, entering a track after its planned drive; gone, its due minute is the minute it left
+unfoldable pub dueAgain : Case → ℕ → ℕ → Place → ℕ
+dueAgain C t k e = t + plannedOn e (way C k)
+
+-- leaving an element, it blocks it through minute t + safety time; nothing outside is blocked
+unfoldable pub leaving : Case → ℕ → Mark → List Mark
+leaving C t m = one (not (same (m .place) outside)) (block (m .train) (m .place) (t + C .head .safety))
+
+-- a mark that enters e at t: its standing mark, then its block
+unfoldable pub entered : Case → ℕ → Place → Mark → List Mark
+entered C t e m = stands (m .train) e (dueAgain C t (m .train) e) ∷ leaving C t m
+
+-- the arrival of a mark that enters e at t, if e is its train's last station
+unfoldable pub arriving : Case → ℕ → Place → Mark → List Mark
+arriving C t e m = one (same e (lastStation C (m .train))) (stands (m .train) e t)
+
+-- ---- one asker after another
+
+-- what comes of an asker: what stands in its row, what is added at the end of the list, and what has arrived
+pub record Served (A : Type 0) : Type 0 where
+  pub rows : List A
+  pub added : List A
+  pub arrived : List A
+
+abbrev pub served : {A : Type 0} → List A → List A → List A → Served A
+served r a v = record { rows = r; added = a; arrived = v }
+
+-- a run between two minutes: the list, what has arrived so far, and the refusal that was met first (0: none)
+pub record State (A : Type 0) : Type 0 where
+  pub list : List A
+  pub arrived : List A
+  pub met : ℕ
+
+abbrev pub state : {A : Type 0} → List A → List A → ℕ → State A
+state l v n = record { list = l; arrived = v; met = n }
+
+-- a row, and whether it has yet to be served
+pub record Row (A : Type 0) : Type 0 where
+  pub item : A
+  pub asking : Bool
+
+abbrev pub row : {A : Type 0} → A → Bool → Row A
+row a b = record { item = a; asking = b }
+
+abbrev pub items : {A : Type 0} → List (Row A) → List A
+items rs = map (λ r. r .item) rs
+
+abbrev pub quiet : {A : Type 0} → List A → List (Row A)
+quiet l = map (λ a. row a false) l
+
+-- who is served next: nobody, or an asker with the rows before and after it
+pub data Turn (A : Type 0) : Type 0 where
+  nobody : Turn A
+  somebody : List (Row A) → A → List (Row A) → Turn A
+
+-- a run of items: the mark that an item shows, what comes of an item that asks for an element in a minute, and what a list is refused for
+pub record Rules (A : Type 0) : Type 0 where
+  pub mark : A → Mark
+  pub serve : ℕ → Place → List A → A → Served A
+  pub check : List A → ℕ
+
+module _ {A : Type 0} (C : Case) (R : Rules A) where
+  -- a row, put before rows among which somebody is next
+  abbrev pub before : Bool → Row A → List (Row A) → Turn A → Turn A
+  before false r rs nobody = nobody
+  before false r rs (somebody b a c) = somebody (r ∷ b) a c
+  before true r rs nobody = somebody [] (r .item) rs
+  before true r rs (somebody b a c) =
+      cond (sooner C (R .mark a) (R .mark (r .item))) (somebody (r ∷ b) a c) (somebody [] (r .item) rs)
+
+  -- the asker that goes first: none is sooner, and among equals it is the first in the list
+  unfoldable pub next : List (Row A) → Turn A
+  next [] = nobody
+  next (r ∷ rs) = before (r .asking) r rs (next rs)
+
+  -- one asker served: what replaces it stands in its row, what it adds at the end, and neither asks again in this minute; `go` serves the others
+  abbrev pub serveOne : ℕ → Place → (List (Row A) → List A → ℕ → State A) → List (Row A) → List A → ℕ → Turn A → State A
+  serveOne t e go rs v n nobody = state (items rs) v n
+  serveOne t e go rs v n (somebody b a c) =
+      let s = R .serve t e (items rs) a in
+      let rs′ = b ++ quiet (s .rows) ++ c ++ quiet (s .added) in
+      go rs′ (v ++ s .arrived) (firstOf (ltb 0 n) n (R .check (items rs′)))
+
+  unfoldable pub serveAll : ℕ → ℕ → Place → List (Row A) → List A → ℕ → State A
+  serveAll zero t e rs v n = state (items rs) v n
+  serveAll (suc k) t e rs v n = serveOne t e (serveAll k t e) rs v n (next rs)
+
+  -- 2. and 3. the askers for e are fixed before the first is served
+  unfoldable pub visit : ℕ → Place → State A → State A
+  visit t e s =
+      serveAll (length (s .list)) t e (map (λ a. row a (asks C t e (R .mark a))) (s .list)) (s .arrived) (s .met)
+
+  -- minute t
+  unfoldable pub minute : ℕ → State A → State A
+  minute t s =
+      fold (visit t) (elements C) (state (keep (λ a. not (ended t (R .mark a))) (s .list)) (s .arrived) (s .met))
+
+  -- the first n minutes, from minute 0 on
+  unfoldable pub minutes : ℕ → State A → State A
+  minutes zero s = s
+  minutes (suc n) s = minute n (minutes n s)
+
+  -- the run from a first list, after minute m
+  unfoldable pub runFrom : List A → ℕ → State A
+  runFrom l m = minutes (suc m) (state l [] (R .check l))

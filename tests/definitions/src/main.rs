@@ -1,0 +1,292 @@
+//! The program `definitions FOLDER`: reads the second program's vectors from standard input and writes a crate `vectors` into
+//! FOLDER/crates/vectors whose theorems say that the definitions, computed on the same bytes, give the same answers.
+//! There is one theorem an input and ten inputs a file, so that a difference is named by its file and line.
+
+use std::fmt::Write as _;
+use std::fs;
+use std::io::{self, BufRead};
+use std::path::Path;
+use std::process::ExitCode;
+
+/// The definitions that computing has to see through, by the module that declares them.
+const OPENED: [(&str, &str); 7] = [
+    ("Files", "headOf, trackOf, stopOf, trainOf, pairOf, tableOf, known, inPlace, lengths, most, howMany, headRules, stationRules, unknown, leads, trackRules, pathBroken, timesBroken, trainRules, tableRules, bodyRules, fieldRules, more, endRules, readField, readFields, read, tablesOf, caseOf, files"),
+    ("Turns", "same, way, ahead, lastStation, elements, capacity, ended, asks, sooner, dueAgain, leaving, entered, arriving, next, serveAll, visit, minute, minutes, runFrom"),
+    ("Single", "waits, firstMarks, trainsOn, enters, serveTrain, singleRules, single as singleState, arrival"),
+    ("Joint", "common, without, inside, apart, outsides, choicesIn, whole, weightOf, weight, total, firstList, carry, meets, pieces, serveEntry, checkList, jointRules, joint, weightAt"),
+    ("Listing", "decimal, notArrived, trainLines, listing as listingOf"),
+    ("Figures", "plan, onTime, late, double, punctuality, shares, latenessSum, latenessWeight, figures"),
+    ("Calls", "choiceBroken, noSuchTrain, singleRun, stoppedRun, wholeRun, trainRun, setImage, coverImage, rowImage, textOf"),
+];
+
+/// What the doubles' computing has to see through besides.
+const FLOATS: &str = "div, ofInt, round, size, span, climb, units, odd, toBits";
+
+const ASKED: &str = "reading, single, run, listing, punctual";
+
+/// One question with its expected answer, both as antt text.
+struct Statement {
+    question: String,
+    answer: String,
+}
+
+fn main() -> ExitCode {
+    let Some(folder) = std::env::args().nth(1) else {
+        eprintln!("use: definitions FOLDER");
+        return ExitCode::from(2);
+    };
+    match weave(Path::new(&folder)) {
+        Ok(inputs) => {
+            println!("{inputs}");
+            ExitCode::SUCCESS
+        }
+        Err(error) => {
+            eprintln!("definitions: {error}");
+            ExitCode::FAILURE
+        }
+    }
+}
+
+/// Writes the crate and says how many inputs it has.
+fn weave(folder: &Path) -> io::Result<usize> {
+    let inputs = read_inputs()?;
+    let specs = folder.join("crates/vectors/specs");
+    fs::create_dir_all(&specs)?;
+    fs::create_dir_all(folder.join("crates/vectors/src"))?;
+    fs::write(folder.join("crates/vectors/src/lib.rt"), "")?;
+    fs::write(specs.join("Asked.antt"), include_str!("Asked.antt"))?;
+    let mut modules = String::from("pub mod Asked\n");
+    for (number, inputs) in inputs.chunks(10).enumerate() {
+        let name = format!("Inputs{number}");
+        writeln!(modules, "pub mod {name}").expect("a string takes all");
+        fs::write(specs.join(format!("{name}.antt")), module_text(inputs))?;
+    }
+    fs::write(specs.join("Lib.antt"), modules)?;
+    Ok(inputs.len())
+}
+
+/// Reads the vectors: an input starts with its `reading` or `accepted` line.
+fn read_inputs() -> io::Result<Vec<Vec<Statement>>> {
+    let mut inputs: Vec<Vec<Statement>> = Vec::new();
+    for line in io::stdin().lock().lines() {
+        let line = line?;
+        let fields: Vec<&str> = line.split('|').collect();
+        if matches!(fields[0], "reading" | "accepted") {
+            inputs.push(Vec::new());
+        }
+        let statement = statement(&fields).ok_or_else(|| {
+            io::Error::new(io::ErrorKind::InvalidData, format!("not a vector: {line}"))
+        })?;
+        match inputs.last_mut() {
+            Some(input) => input.push(statement),
+            None => {
+                return Err(io::Error::new(
+                    io::ErrorKind::InvalidData,
+                    "a vector before its input",
+                ))
+            }
+        }
+    }
+    Ok(inputs)
+}
+
+/// The statement of one vector.
+fn statement(fields: &[&str]) -> Option<Statement> {
+    let [kind, case, book, rest @ ..] = fields else {
+        return None;
+    };
+    let files = format!("{} {}", hex_list(case)?, hex_list(book)?);
+    let (question, answer) = match (*kind, rest) {
+        ("accepted", []) => (format!("reading {files}"), vec![2]),
+        ("reading", [n, f, p]) => (
+            format!("reading {files}"),
+            vec![1, number(n)?, number(f)?, number(p)?],
+        ),
+        ("single", [choice, k, answer]) => (
+            format!("single {files} {} {k}", hex_list(choice)?),
+            single_answer(answer)?,
+        ),
+        ("run", [m, rest @ ..]) => (format!("run {files} {m}"), run_answer(rest)?),
+        ("listing", [text]) => (format!("listing {files}"), listing_answer(text)?),
+        ("figures", [k, l, rest @ ..]) => {
+            (format!("punctual {files} {k} {l}"), figures_answer(rest)?)
+        }
+        _ => return None,
+    };
+    Some(Statement {
+        question,
+        answer: list(&answer),
+    })
+}
+
+/// `refused N` or `refused N F P`, as an answer.
+fn refused(text: &str) -> Option<Vec<u64>> {
+    let words: Vec<u64> = text
+        .strip_prefix("refused ")?
+        .split(' ')
+        .map(number)
+        .collect::<Option<_>>()?;
+    match words.as_slice() {
+        [n] => Some(vec![1, *n, 0, 0]),
+        [n, f, p] => Some(vec![1, *n, *f, *p]),
+        _ => None,
+    }
+}
+
+fn single_answer(text: &str) -> Option<Vec<u64>> {
+    match text {
+        "none" => Some(vec![2]),
+        _ => refused(text).or_else(|| Some(vec![2, number(text)?])),
+    }
+}
+
+fn run_answer(rest: &[&str]) -> Option<Vec<u64>> {
+    match rest {
+        [text] => refused(text),
+        [length, rows, arrivals] => {
+            let mut answer = vec![2, number(length)?];
+            for row in rows.split(';').filter(|row| !row.is_empty()) {
+                answer.extend(row_image(row)?);
+            }
+            for arrival in arrivals.split(';').filter(|arrival| !arrival.is_empty()) {
+                for word in arrival.split(',') {
+                    answer.push(number(word)?);
+                }
+            }
+            Some(answer)
+        }
+        _ => None,
+    }
+}
+
+/// The 16 bytes of docs/FORMATS.md for a row `train,place,kind,minute,set0.set1..`.
+fn row_image(row: &str) -> Option<Vec<u64>> {
+    let [train, place, kind, minute, sets] = row.split(',').collect::<Vec<_>>()[..] else {
+        return None;
+    };
+    let (place, of) = match place {
+        "out" => (0, 0),
+        "gone" => (3, 0),
+        _ => match place.split_at(1) {
+            ("s", of) => (1, number(of)?),
+            ("t", of) => (2, number(of)?),
+            _ => return None,
+        },
+    };
+    let kind = match kind {
+        "stands" => 1,
+        "blocks" => 2,
+        _ => return None,
+    };
+    let minute = number(minute)?;
+    let mut image = vec![
+        number(train)?,
+        kind,
+        place,
+        of,
+        minute / 256,
+        minute % 256,
+        0,
+        0,
+    ];
+    for set in sets.split('.') {
+        image.push(number(set)?);
+    }
+    image.resize(16, 0);
+    Some(image)
+}
+
+fn listing_answer(text: &str) -> Option<Vec<u64>> {
+    if let Some(answer) = refused(text) {
+        return Some(answer);
+    }
+    let mut answer = vec![2];
+    answer.extend(hex(text)?);
+    Some(answer)
+}
+
+/// NUMBER|PART|WHOLE|ONTIME|LATE|MISSING|SUM|WEIGHT: the doubles are divided here.
+fn figures_answer(rest: &[&str]) -> Option<Vec<u64>> {
+    if let [text] = rest {
+        return refused(text);
+    }
+    let n: Vec<u64> = rest
+        .iter()
+        .map(|word| number(word))
+        .collect::<Option<_>>()?;
+    let [kind, part, whole, on_time, late, missing, sum, weight] = n[..] else {
+        return None;
+    };
+    let bits = |part: u64| (part as f64 / whole as f64).to_bits();
+    let share = if kind == 3 { bits(part) } else { 0 };
+    Some(vec![
+        2,
+        kind,
+        share,
+        on_time,
+        late,
+        missing,
+        bits(on_time),
+        bits(late),
+        bits(missing),
+        sum,
+        weight,
+    ])
+}
+
+fn number(text: &str) -> Option<u64> {
+    text.parse().ok()
+}
+
+fn hex(text: &str) -> Option<Vec<u64>> {
+    (0..text.len())
+        .step_by(2)
+        .map(|at| u64::from_str_radix(text.get(at..at + 2)?, 16).ok())
+        .collect()
+}
+
+fn hex_list(text: &str) -> Option<String> {
+    Some(list(&hex(text)?))
+}
+
+/// A list of numbers as antt text.
+fn list(numbers: &[u64]) -> String {
+    let mut text = String::from("(");
+    for number in numbers {
+        write!(text, "{number} ∷ ").expect("a string takes all");
+    }
+    text.push_str("[])");
+    text
+}
+
+/// A module with one theorem an input.
+fn module_text(inputs: &[Vec<Statement>]) -> String {
+    let mut text = String::from("use mathlib.Core.Path.{_≡_, refl}\nuse mathlib.Core.List.{List, [], _∷_}\nuse Prim.Native.Nat.{ℕ}\n");
+    let mut opened = format!("{ASKED}, {FLOATS}");
+    writeln!(
+        text,
+        "use lib.Ieee.{{{FLOATS}}}\nuse Rattle.vectors.specs.Asked.{{{ASKED}}}"
+    )
+    .expect("a string takes all");
+    for (module, names) in OPENED {
+        writeln!(text, "use Rattle.rules.specs.{module}.{{{names}}}").expect("a string takes all");
+        for name in names.split(", ") {
+            opened.push_str(", ");
+            opened.push_str(name.rsplit(" as ").next().unwrap_or(name));
+        }
+    }
+    let opened = opened.replace(", ", " ");
+    for (number, input) in inputs.iter().enumerate() {
+        let join = |part: fn(&Statement) -> &String| -> String {
+            input.iter().map(|s| format!("({}) ∷ ", part(s))).collect()
+        };
+        writeln!(
+            text,
+            "\ninput{number} : _≡_ {{A = List (List ℕ)}} ({}[]) ({}[])\nunfolding {opened}\ninput{number} = refl",
+            join(|s| &s.question),
+            join(|s| &s.answer)
+        )
+        .expect("a string takes all");
+    }
+    text
+}
