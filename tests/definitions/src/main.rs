@@ -1,6 +1,6 @@
 //! The program `definitions FOLDER`: reads the second program's vectors from standard input and writes a crate `vectors` into
 //! FOLDER/crates/vectors whose theorems say that the definitions, computed on the same bytes, give the same answers.
-//! There is one theorem an input and ten inputs a file, so that a difference is named by its file and line.
+//! There is one theorem a vector and ten inputs a file, so that a difference is named by its file and line.
 
 use std::fmt::Write as _;
 use std::fs;
@@ -36,8 +36,8 @@ fn main() -> ExitCode {
         return ExitCode::from(2);
     };
     match weave(Path::new(&folder)) {
-        Ok(inputs) => {
-            println!("{inputs}");
+        Ok(vectors) => {
+            println!("{vectors}");
             ExitCode::SUCCESS
         }
         Err(error) => {
@@ -47,7 +47,7 @@ fn main() -> ExitCode {
     }
 }
 
-/// Writes the crate and says how many inputs it has.
+/// Writes the crate and says how many vectors it has.
 fn weave(folder: &Path) -> io::Result<usize> {
     let inputs = read_inputs()?;
     let specs = folder.join("crates/vectors/specs");
@@ -62,7 +62,7 @@ fn weave(folder: &Path) -> io::Result<usize> {
         fs::write(specs.join(format!("{name}.antt")), module_text(inputs))?;
     }
     fs::write(specs.join("Lib.antt"), modules)?;
-    Ok(inputs.len())
+    Ok(inputs.iter().map(Vec::len).sum())
 }
 
 /// Reads the vectors: an input starts with its `reading` or `accepted` line.
@@ -259,7 +259,7 @@ fn list(numbers: &[u64]) -> String {
     text
 }
 
-/// A module with one theorem an input.
+/// A module with one theorem a vector.
 fn module_text(inputs: &[Vec<Statement>]) -> String {
     let mut text = String::from("use mathlib.Core.Path.{_≡_, refl}\nuse mathlib.Core.List.{List, [], _∷_}\nuse Prim.Native.Nat.{ℕ}\n");
     let mut opened = format!("{ASKED}, {FLOATS}");
@@ -277,16 +277,14 @@ fn module_text(inputs: &[Vec<Statement>]) -> String {
     }
     let opened = opened.replace(", ", " ");
     for (number, input) in inputs.iter().enumerate() {
-        let join = |part: fn(&Statement) -> &String| -> String {
-            input.iter().map(|s| format!("({}) ∷ ", part(s))).collect()
-        };
-        writeln!(
-            text,
-            "\ninput{number} : _≡_ {{A = List (List ℕ)}} ({}[]) ({}[])\nunfolding {opened}\ninput{number} = refl",
-            join(|s| &s.question),
-            join(|s| &s.answer)
-        )
-        .expect("a string takes all");
+        for (of, Statement { question, answer }) in input.iter().enumerate() {
+            let name = format!("input{number}-vector{of}");
+            writeln!(
+                text,
+                "\n{name} : {question} ≡ {answer}\nunfolding {opened}\n{name} = refl"
+            )
+            .expect("a string takes all");
+        }
     }
     text
 }

@@ -1,0 +1,129 @@
+//! What both runs need of an accepted pair of files: places, the way of each train, capacities and planned lengths.
+
+use crate::reader::{read, Accepted, Case, Head, Table, Train};
+use crate::refusal::Refusal;
+
+/// Where a train is: outside, on an element (station or track), or gone by the way out.
+#[derive(Clone, Copy, Debug, PartialEq, Eq, PartialOrd, Ord)]
+pub enum Place {
+    Outside,
+    Station(usize),
+    Track(usize),
+    Gone,
+}
+
+/// One place on a train's way and the planned minutes there.
+#[derive(Clone, Copy, Debug, PartialEq, Eq)]
+struct Step {
+    place: Place,
+    planned: u32,
+}
+
+/// An accepted pair of files as the runs use it; `tables` holds each train's own table by train number.
+#[derive(Clone, Debug)]
+pub struct Plan {
+    pub head: Head,
+    pub case: Case,
+    pub tables: Vec<Table>,
+    ways: Vec<Vec<Step>>,
+}
+
+impl Plan {
+    /// Reads both files, or gives the first refusal of the reading (1 to 11).
+    pub fn read(case: &[u8], book: &[u8]) -> Result<Plan, Refusal> {
+        let Accepted { head, case, tables } = read(case, book)?;
+        let ways = case.trains.iter().map(|train| way(&case, train)).collect();
+        Ok(Plan {
+            head,
+            case,
+            tables,
+            ways,
+        })
+    }
+
+    /// The number of trains.
+    pub fn trains(&self) -> usize {
+        self.case.trains.len()
+    }
+
+    /// The elements in visiting order: stations by number, tracks by number, then the way out.
+    pub fn elements(&self) -> Vec<Place> {
+        let stations = (0..self.case.stations.len()).map(Place::Station);
+        let tracks = (0..self.case.tracks.len()).map(Place::Track);
+        stations.chain(tracks).chain([Place::Gone]).collect()
+    }
+
+    /// How many trains an element takes; the way out has no limit, and outside neither.
+    pub fn capacity(&self, place: Place) -> Option<usize> {
+        match place {
+            Place::Station(station) => Some(self.case.stations[station]),
+            Place::Track(track) => Some(self.case.tracks[track].capacity),
+            Place::Outside | Place::Gone => None,
+        }
+    }
+
+    /// The next element of a train on its way; a train gone has none.
+    pub fn next(&self, train: usize, place: Place) -> Option<Place> {
+        let way = &self.ways[train];
+        let step = way.iter().position(|step| step.place == place)?;
+        way.get(step + 1).map(|step| step.place)
+    }
+
+    /// The full planned length of a train's stop or drive on an element; a train gone has 0.
+    pub fn planned_length(&self, train: usize, place: Place) -> u32 {
+        let step = self.ways[train].iter().find(|step| step.place == place);
+        step.map_or(0, |step| step.planned)
+    }
+
+    /// The station whose entering is the train's arrival.
+    pub fn last_station(&self, train: usize) -> Place {
+        let stops = &self.case.trains[train].stops;
+        Place::Station(stops[stops.len() - 1].station)
+    }
+
+    /// The planned minute of arrival at the last station.
+    pub fn planned_arrival(&self, train: usize) -> u32 {
+        let stops = &self.case.trains[train].stops;
+        stops[stops.len() - 1].arrival
+    }
+
+    /// The minute a train is due outside: its first arrival plus its delay.
+    pub fn first_due(&self, train: usize, delay: usize) -> u32 {
+        self.case.trains[train].stops[0].arrival + self.tables[train].delays[delay].minutes
+    }
+
+    /// Askers are served by priority, then by train number.
+    pub fn rank(&self, train: usize) -> (u8, usize) {
+        (self.case.trains[train].priority, train)
+    }
+
+    /// The weight of all choices together: 100^n.
+    pub fn total(&self) -> u64 {
+        100u64.pow(self.trains() as u32)
+    }
+}
+
+/// The way of a train: outside, then stations and tracks in turn, then gone.
+fn way(case: &Case, train: &Train) -> Vec<Step> {
+    let step = |place, planned| Step { place, planned };
+    let mut way = vec![step(Place::Outside, 0)];
+    for (index, stop) in train.stops.iter().enumerate() {
+        let stay = stop.departure - stop.arrival;
+        way.push(step(Place::Station(stop.station), stay));
+        if let Some(next) = train.stops.get(index + 1) {
+            let track = track_between(case, stop.station, next.station);
+            way.push(step(track, next.arrival - stop.departure));
+        }
+    }
+    way.push(step(Place::Gone, 0));
+    way
+}
+
+/// The track of a step; an accepted path has one for each of its steps.
+fn track_between(case: &Case, from: usize, to: usize) -> Place {
+    let track = case
+        .tracks
+        .iter()
+        .position(|track| track.from == from && track.to == to);
+    Place::Track(track.expect("each step of an accepted path has a track"))
+}

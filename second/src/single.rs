@@ -1,0 +1,111 @@
+//! The single run of one choice of delays, minute by minute from 0 to T.
+
+use crate::plan::{Place, Plan};
+
+/// Where a train stands and the minute it is due; a train gone keeps the minute it left.
+#[derive(Clone, Copy, Debug, PartialEq, Eq)]
+pub struct Standing {
+    pub place: Place,
+    pub due: u32,
+}
+
+/// A train that left an element blocks it through the end minute, that minute included.
+#[derive(Clone, Copy, Debug, PartialEq, Eq, PartialOrd, Ord)]
+pub struct Block {
+    pub train: usize,
+    pub place: Place,
+    pub end: u32,
+}
+
+/// The state between two minutes: each train's standing by train number, and the blocks.
+#[derive(Clone, Debug, PartialEq, Eq)]
+pub struct State {
+    pub standing: Vec<Standing>,
+    pub blocks: Vec<Block>,
+}
+
+/// A whole single run: the state after every minute, and each train's minute of arrival.
+#[derive(Clone, Debug, PartialEq, Eq)]
+pub struct SingleRun {
+    pub after: Vec<State>,
+    pub arrivals: Vec<Option<u32>>,
+}
+
+/// Runs one choice (one index per train, counted from 0 in its table) from minute 0 to T.
+pub fn run(plan: &Plan, choice: &[u8]) -> SingleRun {
+    let mut state = start(plan, choice);
+    let mut after = Vec::new();
+    let mut arrivals = vec![None; plan.trains()];
+    for t in 0..=plan.head.last_minute {
+        visit(plan, &mut state, t, &mut arrivals);
+        after.push(state.clone());
+    }
+    SingleRun { after, arrivals }
+}
+
+/// At the start each train waits outside, due at its first arrival plus its delay.
+fn start(plan: &Plan, choice: &[u8]) -> State {
+    let waiting = |train: usize| Standing {
+        place: Place::Outside,
+        due: plan.first_due(train, usize::from(choice[train])),
+    };
+    State {
+        standing: (0..plan.trains()).map(waiting).collect(),
+        blocks: Vec::new(),
+    }
+}
+
+/// Visits one minute: old blocks go, then the elements are visited and their askers served.
+fn visit(plan: &Plan, state: &mut State, t: u32, arrivals: &mut [Option<u32>]) {
+    state.blocks.retain(|block| block.end >= t);
+    for element in plan.elements() {
+        for train in askers(plan, state, element, t) {
+            if has_room(plan, state, element) {
+                enter(plan, state, train, element, t);
+                if element == plan.last_station(train) {
+                    arrivals[train] = Some(t);
+                }
+            }
+        }
+    }
+}
+
+/// The trains whose next element it is and whose due minute has come, by priority, then train number.
+fn askers(plan: &Plan, state: &State, element: Place, t: u32) -> Vec<usize> {
+    let asks = |train: &usize| {
+        let standing = state.standing[*train];
+        plan.next(*train, standing.place) == Some(element) && standing.due <= t
+    };
+    let mut trains: Vec<usize> = (0..plan.trains()).filter(asks).collect();
+    trains.sort_by_key(|train| plan.rank(*train));
+    trains
+}
+
+/// Whether fewer trains stand on or block the element than its capacity.
+fn has_room(plan: &Plan, state: &State, element: Place) -> bool {
+    let there = |train: &usize| {
+        let stands = state.standing[*train].place == element;
+        let blocks = |block: &Block| block.train == *train && block.place == element;
+        stands || state.blocks.iter().any(blocks)
+    };
+    match plan.capacity(element) {
+        None => true,
+        Some(capacity) => (0..plan.trains()).filter(there).count() < capacity,
+    }
+}
+
+/// The train leaves its element blocked, stands on the next and is due after its planned length there.
+fn enter(plan: &Plan, state: &mut State, train: usize, element: Place, t: u32) {
+    let left = state.standing[train].place;
+    if left != Place::Outside {
+        state.blocks.push(Block {
+            train,
+            place: left,
+            end: t + plan.head.safety,
+        });
+    }
+    state.standing[train] = Standing {
+        place: element,
+        due: t + plan.planned_length(train, element),
+    };
+}

@@ -1,0 +1,185 @@
+//! Demands 2 and 3 on generated cases: the joint run against the enumeration of all choices by the single run.
+
+use second::cover::covers;
+use second::enumeration::{all_choices, arrivals};
+use second::generator::{sound, Chance, Files, Size};
+use second::joint::{Entry, JointRun, Kind};
+use second::plan::{Place, Plan};
+use second::refusal;
+use second::single::{self, Block, SingleRun, Standing, State};
+
+/// What was seen over many cases.
+#[derive(Debug, Default)]
+struct Seen {
+    answered: usize,
+    refused_room: usize,
+    longest_list: usize,
+    not_arrived: usize,
+    split_once: usize,
+    split_twice: usize,
+    split_thrice: usize,
+    held_at_capacity_2: usize,
+}
+
+/// Runs one case in step with the single runs of all its choices and compares after every minute.
+fn compare(files: &Files, seen: &mut Seen) {
+    let plan = Plan::read(&files.case, &files.book).expect("a drawn case is sound");
+    let choices = all_choices(&plan);
+    let runs: Vec<SingleRun> = choices.iter().map(|c| single::run(&plan, c)).collect();
+    let mut joint = JointRun::start(&plan).expect("the first list is short");
+    let mut splits = vec![0; joint.list.len()];
+    for t in 0..=plan.head.last_minute {
+        let before = joint.list.clone();
+        if let Err(number) = joint.visit(&plan, t) {
+            assert_eq!(number, refusal::ROOM);
+            seen.refused_room += 1;
+            return;
+        }
+        splits = count_splits(&before, &splits, &joint.list, seen);
+        seen.longest_list = seen.longest_list.max(joint.list.len());
+        seen.held_at_capacity_2 += held_at(&plan, &joint.list, t, 2);
+        for (choice, run) in choices.iter().zip(&runs) {
+            compare_choice(&plan, &joint.list, choice, &run.after[t as usize]);
+        }
+    }
+    assert_eq!(joint.arrivals, arrivals(&plan));
+    seen.answered += 1;
+    seen.not_arrived += runs
+        .iter()
+        .filter(|run| run.arrivals.contains(&None))
+        .count();
+}
+
+/// Demand 3 for one choice after one minute: one standing entry per train, the same blocks, no element too full.
+fn compare_choice(plan: &Plan, list: &[Entry], choice: &[u8], state: &State) {
+    let here: Vec<&Entry> = list.iter().filter(|e| covers(&e.cover, choice)).collect();
+    for (train, standing) in state.standing.iter().enumerate() {
+        let of_train: Vec<Standing> = here
+            .iter()
+            .filter(|e| e.kind == Kind::Stands && e.train == train)
+            .map(|e| Standing {
+                place: e.place,
+                due: e.minute,
+            })
+            .collect();
+        assert_eq!(of_train, [*standing]);
+    }
+    let mut blocks: Vec<Block> = here
+        .iter()
+        .filter(|e| e.kind == Kind::Blocks)
+        .map(|e| Block {
+            train: e.train,
+            place: e.place,
+            end: e.minute,
+        })
+        .collect();
+    let mut expected = state.blocks.clone();
+    blocks.sort();
+    expected.sort();
+    assert_eq!(blocks, expected);
+    for element in plan.elements() {
+        let trains = here.iter().filter(|e| e.place == element).count();
+        assert!(plan.capacity(element).is_none_or(|most| trains <= most));
+    }
+}
+
+/// How often each row was split while held at its place: once more than its row before if its cover has shrunk since.
+fn count_splits(before: &[Entry], splits: &[u32], list: &[Entry], seen: &mut Seen) -> Vec<u32> {
+    let mut now = Vec::new();
+    for entry in list {
+        let came_from = before.iter().position(|old| is_rest_of(entry, old));
+        let count = match came_from {
+            None => 0,
+            Some(row) => splits[row] + u32::from(before[row].cover != entry.cover),
+        };
+        let shrunk = came_from.is_some_and(|row| before[row].cover != entry.cover);
+        match (shrunk, count) {
+            (true, 1) => seen.split_once += 1,
+            (true, 2) => seen.split_twice += 1,
+            (true, 3) => seen.split_thrice += 1,
+            _ => {}
+        }
+        now.push(count);
+    }
+    now
+}
+
+/// Whether a standing entry is what is left of an older one that waits at the same place since the same minute.
+fn is_rest_of(entry: &Entry, old: &Entry) -> bool {
+    let same_wait = (entry.train, entry.place, entry.minute) == (old.train, old.place, old.minute);
+    let standing = entry.kind == Kind::Stands && old.kind == Kind::Stands;
+    let within = entry.cover.iter().zip(&old.cover).all(|(a, b)| a & !b == 0);
+    same_wait && standing && within && entry.place != Place::Gone
+}
+
+/// How many entries are held after a minute before an element of this capacity.
+fn held_at(plan: &Plan, list: &[Entry], t: u32, capacity: usize) -> usize {
+    let held = |entry: &&Entry| {
+        let next = plan.next(entry.train, entry.place);
+        entry.kind == Kind::Stands
+            && entry.minute <= t
+            && next.and_then(|element| plan.capacity(element)) == Some(capacity)
+    };
+    list.iter().filter(held).count()
+}
+
+/// Compares the cases of a range of seeds.
+fn compare_seeds(seeds: std::ops::Range<u64>, size: Size) -> Seen {
+    let mut seen = Seen::default();
+    for seed in seeds {
+        compare(&sound(&mut Chance::new(seed), size), &mut seen);
+    }
+    println!("{seen:?}");
+    seen
+}
+
+/// A size with the full room.
+fn size(trains: (usize, usize), delays: (usize, usize), stretch: usize) -> Size {
+    Size {
+        trains,
+        delays,
+        small_room: 0,
+        stretch,
+    }
+}
+
+/// Asserts that held entries were split a first, a second and a third time, and that elements of capacity 2 were full.
+fn assert_contention(seen: &Seen) {
+    assert!(seen.split_once > 0 && seen.split_twice > 0 && seen.split_thrice > 0);
+    assert!(seen.held_at_capacity_2 > 0);
+}
+
+#[test]
+fn two_to_five_trains_with_one_to_four_delays() {
+    let seen = compare_seeds(1..801, size((2, 5), (1, 4), 1));
+    assert!(seen.answered > 700 && seen.not_arrived > 0);
+    assert_contention(&seen);
+}
+
+#[test]
+fn four_and_five_trains_with_three_and_four_delays() {
+    let seen = compare_seeds(1_001..1_101, size((4, 5), (3, 4), 1));
+    assert!(seen.answered > 50 && seen.refused_room > 0);
+    assert_contention(&seen);
+}
+
+#[test]
+fn six_and_seven_trains_with_one_or_two_delays() {
+    let seen = compare_seeds(2_001..2_101, size((6, 7), (1, 2), 1));
+    assert!(seen.answered > 50);
+    assert_contention(&seen);
+}
+
+#[test]
+fn two_and_three_trains_with_five_to_eight_delays() {
+    let seen = compare_seeds(3_001..3_201, size((2, 3), (5, 8), 1));
+    assert!(seen.answered > 100);
+    assert_contention(&seen);
+}
+
+#[test]
+fn long_windows_with_long_delays_and_safety_times() {
+    let seen = compare_seeds(4_001..4_061, size((2, 4), (1, 4), 14));
+    assert!(seen.answered > 30);
+    assert_contention(&seen);
+}

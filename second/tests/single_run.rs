@@ -1,0 +1,114 @@
+//! Single runs worked out by hand: stops of no length, ends of blocks, priorities and capacities.
+
+use second::plan::{Place, Plan};
+use second::single::{run, Block, Standing};
+use second::writer::{head, station, table, track, train};
+
+/// A case with two stations and one track of this capacity, a safety time, and trains of one delay of 0.
+fn line(safety: u8, capacity: u8, trains: &[Vec<u8>]) -> Plan {
+    let fields = [
+        head(40, safety, 1024),
+        station(capacity),
+        station(capacity),
+        track(0, 1, capacity),
+        trains.concat(),
+        table(0, &[(0, 100)]),
+    ];
+    Plan::read(&fields.concat(), &[]).expect("a sound case")
+}
+
+/// A train of this priority that stops for no time at minutes 0 and 3.
+fn quick(priority: u8) -> Vec<u8> {
+    train(priority, 0, &[(0, 0, 0), (1, 3, 3)])
+}
+
+/// The minutes of arrival of all trains.
+fn arrivals(plan: &Plan) -> Vec<Option<u32>> {
+    run(plan, &vec![0; plan.trains()]).arrivals
+}
+
+#[test]
+fn a_stop_of_no_length_is_left_in_its_minute() {
+    let plan = line(0, 1, &[quick(0)]);
+    let after = run(&plan, &[0]).after;
+    let on_track = Standing {
+        place: Place::Track(0),
+        due: 3,
+    };
+    assert_eq!(after[0].standing, [on_track]);
+    let block = |place, end| Block {
+        train: 0,
+        place,
+        end,
+    };
+    assert_eq!(after[0].blocks, [block(Place::Station(0), 0)]);
+    assert_eq!(after[1].blocks, []);
+    let gone = Standing {
+        place: Place::Gone,
+        due: 3,
+    };
+    assert_eq!(after[3].standing, [gone]);
+    let left = [block(Place::Track(0), 3), block(Place::Station(1), 3)];
+    assert_eq!(after[3].blocks, left);
+    assert_eq!(after[40].standing, [gone]);
+    assert_eq!(after.len(), 41);
+}
+
+#[test]
+fn an_element_is_free_only_after_the_last_minute_of_its_block() {
+    // The second train enters the track in the minute after the block that the first leaves at minute 3.
+    for safety in 0..4 {
+        let plan = line(safety, 1, &[quick(0), quick(0)]);
+        let second = 3 + u32::from(safety) + 1 + 3;
+        assert_eq!(arrivals(&plan), [Some(3), Some(second)]);
+    }
+}
+
+#[test]
+fn priority_goes_before_train_number() {
+    let equal = line(0, 1, &[quick(7), quick(7)]);
+    assert_eq!(arrivals(&equal), [Some(3), Some(7)]);
+    let second_first = line(0, 1, &[quick(7), quick(6)]);
+    assert_eq!(arrivals(&second_first), [Some(7), Some(3)]);
+}
+
+#[test]
+fn two_trains_fill_a_capacity_of_2() {
+    let plan = line(0, 2, &[quick(0), quick(0), quick(0)]);
+    assert_eq!(arrivals(&plan), [Some(3), Some(3), Some(7)]);
+}
+
+#[test]
+fn a_late_train_keeps_its_full_planned_lengths() {
+    // Train 0 stands from 0 to 4 and drives 6 minutes; train 1 comes in at 6 after the block through 5, and so on.
+    let slow = || train(0, 0, &[(0, 0, 4), (1, 10, 12)]);
+    let plan = line(1, 1, &[slow(), slow()]);
+    let run = run(&plan, &[0, 0]);
+    let second = |minute: usize| run.after[minute].standing[1];
+    assert_eq!(second(5).place, Place::Outside);
+    assert_eq!((second(6).place, second(6).due), (Place::Station(0), 10));
+    assert_eq!((second(11).place, second(11).due), (Place::Station(0), 10));
+    assert_eq!((second(12).place, second(12).due), (Place::Track(0), 18));
+    assert_eq!((second(18).place, second(18).due), (Place::Station(1), 20));
+    assert_eq!((second(20).place, second(20).due), (Place::Gone, 20));
+    assert_eq!(run.arrivals, [Some(10), Some(18)]);
+}
+
+#[test]
+fn a_train_due_past_the_last_minute_never_enters() {
+    let fields = [
+        head(12, 0, 1024),
+        station(1),
+        station(1),
+        track(0, 1, 1),
+        train(0, 0, &[(0, 2, 3), (1, 6, 7)]),
+        table(0, &[(6, 40), (7, 30), (10, 20), (11, 10)]),
+    ];
+    let plan = Plan::read(&fields.concat(), &[]).expect("a sound case");
+    let arrival = |choice: u8| run(&plan, &[choice]).arrivals[0];
+    assert_eq!(arrival(0), Some(12));
+    assert_eq!((arrival(1), arrival(2), arrival(3)), (None, None, None));
+    let last = |choice: u8| run(&plan, &[choice]).after[12].standing[0];
+    assert_eq!((last(2).place, last(2).due), (Place::Station(0), 13));
+    assert_eq!((last(3).place, last(3).due), (Place::Outside, 13));
+}
