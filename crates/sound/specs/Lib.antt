@@ -1,1 +1,12 @@
 pub mod Facts
+pub mod Every
+pub mod Ways
+pub mod Verdicts
+pub mod Reading
+pub mod Bodies
+pub mod Kept
+pub mod Accepted
+pub mod Bounds
+pub mod Window
+pub mod Places
+pub mod Trains

@@ -1,0 +1,14 @@
+pub mod Lists
+pub mod Covers
+pub mod Cutting
+pub mod Askers
+pub mod Keeping
+pub mod Places
+pub mod Orderly
+pub mod Steps
+pub mod Parts
+pub mod View
+pub mod Serving
+pub mod Runs
+pub mod Start
+pub mod Simulation

@@ -1,0 +1,157 @@
+-- An asker served in the joint run is seen by a choice as served in the single run if the asker covers it, and else as nothing at all.
+-- Every cover that results is again a part of the whole one, so the cutting law applies to it. Assumes nothing.
+use mathlib.Core.Path.{_≡_, refl, sym, ap, ap₂, _∙_, subst}
+use mathlib.Core.Bool.{Bool, true, false, not, _&&_, _||_, cond, false≢true}
+use mathlib.Core.List.{List, [], _∷_, _++_, map}
+use Prim.Native.Nat.{ℕ, suc}
+use lib.ListN.{length}
+use lib.Dec.{leb, ltb, eqb}
+use borrow.Author.Tests.{ltb-true, ltb-false, le-leb, lt-leb}
+use Rattle.rules.specs.Lists.{one, each, keep, count, has}
+use Rattle.rules.specs.Files.{Case}
+use Rattle.rules.specs.Turns.{Place, same, Mark, capacity, asks, entered, arriving, Served, served, Row, quiet}
+use Rattle.rules.specs.Turns.Place.{gone}
+use Rattle.rules.specs.Single.{trainsOn, enters, serveTrain}
+use Rattle.rules.specs.Joint.{Cover, covers, whole, Entry, entry, Piece, piece, carry, meets, pieces, serveEntry}
+use Rattle.sound.specs.Facts.{Sound}
+use Rattle.simulation.specs.Lists.{Every, every-append, every-left, every-right, every-map, every-each, every-one, every-keep, every-all, every-more}
+use Rattle.simulation.specs.Covers.{Fits}
+use Rattle.simulation.specs.Cutting.{verdicts, hits}
+use Rattle.simulation.specs.Parts.{Parts, parts-length, carry-parts}
+use Rattle.simulation.specs.Keeping.{servedRows, servedList}
+use Rattle.simulation.specs.Orderly.{Orderly}
+use Rattle.simulation.specs.View.{Choice, view, viewRows, viewServed, view-append, view-cons, viewRows-append, viewRows-quiet, held-view, entering-view, meets-hits, pieces-verdict, others-on}
+
+-- ---- proper covers
+
+-- an entry whose cover has a set for each train, each a part of the whole set
+abbrev pub Proper : Case → Entry → Type 0
+Proper C r = Parts (whole C) (r .cover)
+
+module _ (C : Case) (t : ℕ) (e : Place) where
+  pieces-proper : (rs : List Entry) (r : Entry) → Every (Proper C) rs → Proper C r → Every (λ q. Parts (whole C) (q .cover)) (pieces C e rs r)
+  unfolding pieces meets
+  pieces-proper rs r hs h = go (same e gone)
+    where
+      go : (b : Bool) → Every (λ q. Parts (whole C) (q .cover)) (cond b (piece (r .cover) false ∷ []) (carry (capacity C e) (meets e (r .mark .train) rs) 0 (r .cover)))
+      go true = (h, tt)
+      go false =
+          carry-parts (whole C) (capacity C e) (meets e (r .mark .train) rs)
+          (every-each (Proper C) (Parts (whole C)) (λ a. one (not (eqb (a .mark .train) (r .mark .train)) && same (a .mark .place) e) (a .cover))
+          (λ a f. every-one (Parts (whole C)) (not (eqb (a .mark .train) (r .mark .train)) && same (a .mark .place) e) (a .cover) (λ q. f)) rs hs)
+          0 (r .cover) h
+
+  entering-proper : (new : List Mark) (ps : List Piece) → Every (λ q. Parts (whole C) (q .cover)) ps
+      → Every (Proper C) (each (λ q. map (λ m. entry m (q .cover)) new) (keep (λ q. not (q .held)) ps))
+  entering-proper new ps h =
+      every-each (λ q. Parts (whole C) (q .cover)) (Proper C) (λ q. map (λ m. entry m (q .cover)) new)
+      (λ q f. every-map (λ m. Unit) (Proper C) (λ m. entry m (q .cover)) (λ m u. f) new (every-all (λ m. Unit) (λ m. tt) new))
+      (keep (λ q. not (q .held)) ps) (every-keep (λ q. Parts (whole C) (q .cover)) (λ q. not (q .held)) ps h)
+
+  -- serving keeps covers proper, in the list and among the arrivals
+  pub serve-proper : (b : List Entry) (r : Entry) (c v : List Entry) → Every (Proper C) (b ++ (r ∷ c)) → Every (Proper C) v
+      → Every (Proper C) (servedList (serveEntry C t e (b ++ (r ∷ c)) r) b c) × Every (Proper C) (v ++ serveEntry C t e (b ++ (r ∷ c)) r .arrived)
+  unfolding serveEntry
+  serve-proper b r c v h k =
+      let ps = pieces C e (b ++ (r ∷ c)) r in
+      let hs = pieces-proper (b ++ (r ∷ c)) r h (every-right (Proper C) b (r ∷ c) h .0) in
+      let rows = map (λ q. entry (r .mark) (q .cover)) (keep (λ q. q .held) ps) in (
+        every-append (Proper C) (b ++ rows ++ c) (each (λ q. map (λ m. entry m (q .cover)) (entered C t e (r .mark))) (keep (λ q. not (q .held)) ps))
+            (every-append (Proper C) (b ++ rows) c
+            (every-append (Proper C) b rows (every-left (Proper C) b (r ∷ c) h)
+            (every-map (λ q. Parts (whole C) (q .cover)) (Proper C) (λ q. entry (r .mark) (q .cover)) (λ q f. f) (keep (λ q. q .held) ps)
+            (every-keep (λ q. Parts (whole C) (q .cover)) (λ q. q .held) ps hs)))
+            (every-right (Proper C) b (r ∷ c) h .1))
+            (entering-proper (entered C t e (r .mark)) ps hs),
+        every-append (Proper C) v (each (λ q. map (λ m. entry m (q .cover)) (arriving C t e (r .mark))) (keep (λ q. not (q .held)) ps)) k
+            (entering-proper (arriving C t e (r .mark)) ps hs),
+      )
+
+-- ---- an asker served, as a choice sees it
+
+covers-length : (p : Cover) (x : List ℕ) → covers p x ≡ true → length p ≡ length x
+unfolding covers
+covers-length [] [] h = refl
+covers-length [] (d ∷ x) h = absurd (false≢true h)
+covers-length (s ∷ p) [] h = absurd (false≢true h)
+covers-length (s ∷ p) (d ∷ x) h = ap suc (covers-length p x (go (has s d) h))
+  where
+    go : (b : Bool) → (b && covers p x) ≡ true → covers p x ≡ true
+    go true e = e
+    go false e = absurd (false≢true e)
+
+-- a proper cover has a set for each train of a choice
+pub proper-fits : (C : Case) (x : List ℕ) → Choice C x → (r : Entry) → Proper C r → Fits x (r .cover)
+proper-fits C x ch r h = parts-length (whole C) (r .cover) h ∙ covers-length (whole C) x ch
+
+-- no way in, in the words of both runs
+not-enters : (g : Bool) (n cap : ℕ) → (not g && leb cap n) ≡ not (g || ltb n cap)
+not-enters true n cap = refl
+not-enters false n cap = go (ltb n cap) refl
+  where
+    go : (b : Bool) → ltb n cap ≡ b → leb cap n ≡ not b
+    go true q = lt-leb cap n (ltb-true n cap q)
+    go false q = le-leb cap n (ltb-false n cap q)
+
+module _ (C : Case) (sound : Sound C) (x : List ℕ) (ch : Choice C x) (t : ℕ) (e : Place) where
+  -- what is seen of an asker whose pieces give the verdicts
+  served-seen : (rs : List Entry) (r : Entry) (c h : Bool) → verdicts x (pieces C e rs r) ≡ one c h
+      → viewServed x (serveEntry C t e rs r)
+      ≡ served (cond c (one h (r .mark)) []) (cond c (cond h [] (entered C t e (r .mark))) []) (cond c (cond h [] (arriving C t e (r .mark))) [])
+  unfolding serveEntry
+  served-seen rs r c h v =
+      λ i. served
+      (held-view x (r .mark) (pieces C e rs r) c h v i)
+      (entering-view x (entered C t e (r .mark)) (pieces C e rs r) c h v i)
+      (entering-view x (arriving C t e (r .mark)) (pieces C e rs r) c h v i)
+
+  pub serve-view : (b : List Entry) (r : Entry) (c : List Entry) (v : List Mark) → Every (Proper C) (b ++ (r ∷ c)) → asks C t e (r .mark) ≡ true
+      → Orderly C (view x (b ++ (r ∷ c))) v
+      → viewServed x (serveEntry C t e (b ++ (r ∷ c)) r) ≡ cond (covers (r .cover) x) (serveTrain C t e (view x (b ++ (r ∷ c))) (r .mark)) (served [] [] [])
+  unfolding serveTrain enters
+  serve-view b r c v ps ask o = go (covers (r .cover) x) refl
+    where
+      rs : List Entry
+      rs = b ++ (r ∷ c)
+
+      full : Bool
+      full = not (same e gone) && leb (capacity C e) (hits x (meets e (r .mark .train) rs))
+
+      verdict : verdicts x (pieces C e rs r) ≡ one (covers (r .cover) x) full
+      verdict = pieces-verdict x C e rs r
+          (every-more (Proper C) (λ a. Fits x (a .cover)) (proper-fits C x ch) rs ps)
+          (proper-fits C x ch r (every-right (Proper C) b (r ∷ c) ps .0))
+
+      go : (z : Bool) → covers (r .cover) x ≡ z → viewServed x (serveEntry C t e rs r) ≡ cond z (serveTrain C t e (view x rs) (r .mark)) (served [] [] [])
+      go false q = served-seen rs r false full (verdict ∙ ap (λ (y : Bool). one y full) q)
+      go true q = served-seen rs r true full (verdict ∙ ap (λ (y : Bool). one y full) q) ∙ last (enters C e (view x rs)) shut
+        where
+          here : view x rs ≡ view x b ++ (r .mark ∷ view x c)
+          here = view-append x b (r ∷ c) ∙ ap (λ (l : List Mark). view x b ++ l) (view-cons x r c ∙ ap (λ (y : Bool). one y (r .mark) ++ view x c) q)
+
+          trains : hits x (meets e (r .mark .train) rs) ≡ trainsOn C e (view x rs)
+          trains =
+              meets-hits x e (r .mark .train) rs
+              ∙ ap (count (λ a. not (eqb (a .train) (r .mark .train)) && same (a .place) e)) here
+              ∙ others-on x C sound t e (r .mark) ask (view x b) (view x c) v (subst (λ (l : List Mark). Orderly C l v) here o)
+              ∙ ap (trainsOn C e) (sym here)
+
+          shut : full ≡ not (enters C e (view x rs))
+          shut = ap (λ (n : ℕ). not (same e gone) && leb (capacity C e) n) trains ∙ not-enters (same e gone) (trainsOn C e (view x rs)) (capacity C e)
+
+          last : (y : Bool) → full ≡ not y
+              → served (one full (r .mark)) (cond full [] (entered C t e (r .mark))) (cond full [] (arriving C t e (r .mark)))
+              ≡ cond y (served [] (entered C t e (r .mark)) (arriving C t e (r .mark))) (served (r .mark ∷ []) [] [])
+          last true w = ap (λ (f : Bool). served (one f (r .mark)) (cond f [] (entered C t e (r .mark))) (cond f [] (arriving C t e (r .mark)))) w
+          last false w = ap (λ (f : Bool). served (one f (r .mark)) (cond f [] (entered C t e (r .mark))) (cond f [] (arriving C t e (r .mark)))) w
+
+-- ---- the rows after an asker is served, as a choice sees them
+
+pub viewRows-served : (x : List ℕ) (s : Served Entry) (b c : List (Row Entry)) → viewRows x (servedRows s b c) ≡ servedRows (viewServed x s) (viewRows x b) (viewRows x c)
+viewRows-served x s b c =
+    viewRows-append x (b ++ quiet (s .rows) ++ c) (quiet (s .added))
+    ∙ ap₂ _++_
+    (viewRows-append x (b ++ quiet (s .rows)) c
+    ∙ ap (λ (z : List (Row Mark)). z ++ viewRows x c)
+    (viewRows-append x b (quiet (s .rows)) ∙ ap (λ (z : List (Row Mark)). viewRows x b ++ z) (viewRows-quiet x (s .rows))))
+    (viewRows-quiet x (s .added))

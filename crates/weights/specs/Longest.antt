@@ -1,0 +1,188 @@
+-- Serving an asker never shortens the list, so of a minute's lists the last is the longest: some list has passed the room exactly when the first list
+-- or the list after some minute has. Each piece leaves or adds at least one entry, and there is at least one piece. Assumes nothing.
+use mathlib.Core.Path.{_≡_, refl, sym, ap, _∙_, subst}
+use mathlib.Core.Bool.{Bool, true, false, not, _||_, cond, or-assoc, or-false}
+use mathlib.Core.List.{List, [], _∷_, _++_, map}
+use Prim.Native.Nat.{ℕ, zero, suc, _+_, _≤_}
+use native.Mathlib.Omega.{arith}
+use lib.ListN.{length, length-append}
+use lib.Dec.{ltb, leb}
+use borrow.Author.Tests.{ltb-true, lt-ltb}
+use Rattle.rules.specs.Lists.{one, each, keep, any, below, fold}
+use Rattle.rules.specs.Files.{Case}
+use Rattle.rules.specs.Turns.{Place, same, State, state, Row, items, Turn, Rules, capacity, ended, asks, elements, entered, next, serveOne, serveAll, visit, minute, minutes, runFrom}
+use Rattle.rules.specs.Turns.Place.{gone}
+use Rattle.rules.specs.Turns.Turn.{nobody, somebody}
+use Rattle.rules.specs.Joint.{Cover, Piece, piece, cut, carry, inside, apart, outsides, meets, pieces, Entry, entry, serveEntry, jointRules}
+use Rattle.weights.specs.Tests.{or-true-second, or-brings, or-middle, any-append, any-below, length-keep}
+use Rattle.weights.specs.Trace.{rowsAfter, listsOne, listsAll, visitLists, visitsLists, minuteLists, minutesLists, runLists, items-rows, Splits, next-splits, items-after}
+
+-- the list has more items than the room
+abbrev pub passes : {A : Type 0} → ℕ → List A → Bool
+passes room l = ltb room (length l)
+
+-- what comes of an asker is at least one item
+abbrev pub Grows : {A : Type 0} → Rules A → Type 0
+Grows {A} R = (t : ℕ) (e : Place) (l : List A) (a : A) → 1 ≤ length (R .serve t e l a .rows) + length (R .serve t e l a .added)
+
+-- a longer list passes the room too
+passes-more : {A : Type 0} (room : ℕ) (s t : List A) → length s ≤ length t → passes room s ≡ true → passes room t ≡ true
+passes-more room s t h e = lt-ltb room (length t) (omega (arith, ltb-true room (length s) e))
+
+-- ---- the lists of a run
+
+-- from the list l, the lists ls led to the list l′, which is no shorter: if l passed the room only where it was known,
+-- one of them passes it exactly where l′ does
+pub record Longest {A : Type 0} (room : ℕ) (l : List A) (ls : List (List A)) (l′ : List A) : Type 0 where
+  pub longer : length l ≤ length l′
+  pub last : (known : Bool) → (passes room l ≡ true → known ≡ true) → (known || any (passes room) ls) ≡ (known || passes room l′)
+
+module _ {A : Type 0} (room : ℕ) where
+  longest-none : (l : List A) → Longest room l [] l
+  longest-none l = record { longer = omega arith; last = λ known h. or-false known ∙ sym (or-brings (passes room l) known h) }
+
+  longest-then : (l m n : List A) (s t : List (List A)) → Longest room l s m → Longest room m t n → Longest room l (s ++ t) n
+  longest-then l m n s t g h = record {
+    longer = omega (arith, g .longer, h .longer);
+    last = λ known k.
+        ap (λ (b : Bool). known || b) (any-append (passes room) s t)
+        ∙ sym (or-assoc known (any (passes room) s) (any (passes room) t))
+        ∙ ap (λ (b : Bool). b || any (passes room) t) (g .last known k)
+        ∙ h .last (known || passes room m) (or-true-second known (passes room m))
+        ∙ or-middle known (passes room m) (passes room n) (passes-more room m n (h .longer));
+  }
+
+  longest-one : (l m : List A) → length l ≤ length m → Longest room l (m ∷ []) m
+  longest-one l m h = record { longer = h; last = λ known k. ap (λ (b : Bool). known || b) (or-false (passes room m)) }
+
+  module _ (C : Case) (R : Rules A) (grows : Grows R) where
+    after-longer : (t : ℕ) (e : Place) (rs b : List (Row A)) (a : A) (c : List (Row A)) → Splits rs (somebody b a c)
+        → length (items rs) ≤ length (items (rowsAfter C R t e rs b a c))
+    after-longer t e rs b a c split =
+        let s = R .serve t e (items rs) a in
+        omega (
+          arith,
+          ap length split,
+          length-append (items b) (a ∷ items c),
+          ap length (items-after C R t e rs b a c),
+          length-append (items b ++ s .rows ++ items c) (s .added),
+          length-append (items b ++ s .rows) (items c),
+          length-append (items b) (s .rows),
+          grows t e (items rs) a,
+        )
+
+    serveAll-longest : (k t : ℕ) (e : Place) (rs : List (Row A)) (v : List A) (n : ℕ) → Longest room (items rs) (listsAll C R k t e rs) (serveAll C R k t e rs v n .list)
+    unfolding serveAll listsAll
+    serveAll-longest zero t e rs v n = longest-none (items rs)
+    serveAll-longest (suc k) t e rs v n = go (next C R rs) (next-splits C R rs) (serveAll-longest k t e)
+      where
+        go : (u : Turn A) → Splits rs u
+            → ((rs : List (Row A)) (v : List A) (n : ℕ) → Longest room (items rs) (listsAll C R k t e rs) (serveAll C R k t e rs v n .list))
+            → Longest room (items rs) (listsOne C R t e (listsAll C R k t e) rs u) (serveOne C R t e (serveAll C R k t e) rs v n u .list)
+        go nobody split ih = longest-none (items rs)
+        go (somebody b a c) split ih =
+            let rs′ = rowsAfter C R t e rs b a c in
+            longest-then (items rs) (items rs′) _ (items rs′ ∷ []) (listsAll C R k t e rs′) (longest-one (items rs) (items rs′) (after-longer t e rs b a c split)) (ih rs′ _ _)
+
+    visit-longest : (t : ℕ) (e : Place) (s : State A) → Longest room (s .list) (visitLists C R t e s) (visit C R t e s .list)
+    unfolding visit visitLists
+    visit-longest t e s =
+        subst (λ (l : List A). Longest room l (visitLists C R t e s) (visit C R t e s .list)) (items-rows (λ a. asks C t e (R .mark a)) (s .list))
+        (serveAll-longest _ t e _ (s .arrived) (s .met))
+
+    visits-longest : (t : ℕ) (es : List Place) (s : State A) → Longest room (s .list) (visitsLists C R t es s) (fold (visit C R t) es s .list)
+    visits-longest t [] s = longest-none (s .list)
+    visits-longest t (e ∷ es) s =
+        longest-then (s .list) (visit C R t e s .list) _ (visitLists C R t e s) (visitsLists C R t es (visit C R t e s)) (visit-longest t e s) (visits-longest t es (visit C R t e s))
+
+    -- of a minute's lists the last is the longest, but for the blocks that went at its start
+    minute-longest : (t : ℕ) (s : State A) (known : Bool) → (passes room (s .list) ≡ true → known ≡ true)
+        → (known || any (passes room) (minuteLists C R t s)) ≡ (known || passes room (minute C R t s .list))
+    unfolding minute minuteLists
+    minute-longest t s known h =
+        visits-longest t (elements C) _ .last known (λ e. h (passes-more room left (s .list) (length-keep (λ a. not (ended t (R .mark a))) (s .list)) e))
+      where
+        left : List A
+        left = keep (λ a. not (ended t (R .mark a))) (s .list)
+
+    -- the list after minute i
+    abbrev After : State A → ℕ → Bool
+    After s i = passes room (minutes C R (suc i) s .list)
+
+    -- the first n minutes: one of the lists passes the room exactly where the first list or the list after some minute does
+    abbrev Told : State A → ℕ → Type 0
+    Told s n =
+        ((passes room (s .list) || any (passes room) (minutesLists C R n s)) ≡ (passes room (s .list) || any (After s) (below n)))
+        × (passes room (minutes C R n s .list) ≡ true → (passes room (s .list) || any (After s) (below n)) ≡ true)
+
+    minutes-longest : (n : ℕ) (s : State A) → Told s n
+    unfolding minutes minutesLists
+    minutes-longest zero s = (refl, λ h. ap (λ (b : Bool). b || false) h)
+    minutes-longest (suc n) s = (told (minutes-longest n s), λ h. grouped ∙ or-true-second known (After s n) h)
+      where
+        first : Bool
+        first = passes room (s .list)
+
+        known : Bool
+        known = first || any (After s) (below n)
+
+        grouped : (first || any (After s) (below (suc n))) ≡ (known || After s n)
+        grouped = ap (λ (b : Bool). first || b) (any-below (After s) n) ∙ sym (or-assoc first (any (After s) (below n)) (After s n))
+
+        told : Told s n → (first || any (passes room) (minutesLists C R (suc n) s)) ≡ (first || any (After s) (below (suc n)))
+        told ih =
+            ap (λ (b : Bool). first || b) (any-append (passes room) (minutesLists C R n s) (minuteLists C R n (minutes C R n s)))
+            ∙ sym (or-assoc first (any (passes room) (minutesLists C R n s)) (any (passes room) (minuteLists C R n (minutes C R n s))))
+            ∙ ap (λ (b : Bool). b || any (passes room) (minuteLists C R n (minutes C R n s))) (ih .0)
+            ∙ minute-longest n (minutes C R n s) known (ih .1)
+            ∙ sym grouped
+
+    -- one of the run's lists passes the room exactly where the first list or the list after some minute up to m does
+    pub run-longest : (l : List A) (m : ℕ)
+        → any (passes room) (runLists C R l m) ≡ (passes room l || any (λ i. passes room (runFrom C R l i .list)) (below (suc m)))
+    unfolding runLists runFrom
+    run-longest l m = minutes-longest (suc m) (state l [] (R .check l)) .0
+
+-- ---- the joint run
+
+-- a carried cover comes to at least one piece
+carry-some : (cap : ℕ) (qs : List Cover) (n : ℕ) (p : Cover) → 1 ≤ length (carry cap qs n p)
+unfolding carry
+carry-some cap [] n p = omega arith
+carry-some cap (q ∷ qs) n p = go (leb cap n) (ltb (n + suc (length qs)) cap) (apart (inside p q)) (carry-some cap qs)
+  where
+    go : (a b c : Bool) → ((n : ℕ) (p : Cover) → 1 ≤ length (carry cap qs n p)) → 1 ≤ length (cut a b c (carry cap qs) n p (inside p q))
+    go true b c ih = omega arith
+    go false true c ih = omega arith
+    go false false true ih = ih n p
+    go false false false ih =
+        omega (arith, ih (suc n) (inside p q), length-append (carry cap qs (suc n) (inside p q)) (each (carry cap qs n) (outsides p (inside p q))))
+
+pieces-some : (C : Case) (e : Place) (rs : List Entry) (r : Entry) → 1 ≤ length (pieces C e rs r)
+unfolding pieces
+pieces-some C e rs r = go (same e gone)
+  where
+    go : (b : Bool) → 1 ≤ length (cond b (piece (r .cover) false ∷ []) (carry (capacity C e) (meets e (r .mark .train) rs) 0 (r .cover)))
+    go true = omega arith
+    go false = carry-some (capacity C e) (meets e (r .mark .train) rs) 0 (r .cover)
+
+-- each piece leaves or adds at least one entry
+pub serveEntry-grows : (C : Case) → Grows (jointRules C)
+unfolding jointRules serveEntry entered
+serveEntry-grows C t e rs r = go (pieces C e rs r) (pieces-some C e rs r)
+  where
+    held : List Piece → List Entry
+    held ps = map (λ q. entry (r .mark) (q .cover)) (keep (λ q. q .held) ps)
+
+    added : List Piece → List Entry
+    added ps = each (λ q. map (λ m. entry m (q .cover)) (entered C t e (r .mark))) (keep (λ q. not (q .held)) ps)
+
+    go : (ps : List Piece) → 1 ≤ length ps → 1 ≤ length (held ps) + length (added ps)
+    go [] h = absurd (omega arith)
+    go (q ∷ ps) h = at-first (q .held)
+      where
+        at-first : (b : Bool)
+            → 1 ≤ length (map (λ q. entry (r .mark) (q .cover)) (one b q ++ keep (λ q. q .held) ps))
+            + length (each (λ q. map (λ m. entry m (q .cover)) (entered C t e (r .mark))) (one (not b) q ++ keep (λ q. not (q .held)) ps))
+        at-first true = omega arith
+        at-first false = omega arith
