@@ -54,7 +54,7 @@ fn weave(folder: &Path) -> io::Result<usize> {
     fs::create_dir_all(&specs)?;
     fs::create_dir_all(folder.join("crates/vectors/src"))?;
     fs::write(folder.join("crates/vectors/src/lib.rt"), "")?;
-    fs::write(specs.join("Asked.antt"), include_str!("Asked.antt"))?;
+    fs::write(specs.join("Asked.antt"), include_str!("asked.txt"))?;
     let mut modules = String::from("pub mod Asked\n");
     for (number, inputs) in inputs.chunks(10).enumerate() {
         let name = format!("Inputs{number}");

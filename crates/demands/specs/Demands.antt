@@ -1,0 +1,88 @@
+-- Demands 2 and 3 about the definitions, for every case that the reading accepts from bytes. Each is in the words of the demand, and its proof cites
+-- the crates below: `sound` (what the reading makes true), `simulation` (what a choice sees), `weights` (sums over choices). Assumes nothing.
+use mathlib.Core.Path.{_≡_, refl, ap, _∙_}
+use mathlib.Core.Bool.{Bool, true, false, _&&_, _||_, cond}
+use mathlib.Core.List.{List, [], _∷_, map}
+use Prim.Native.Nat.{ℕ, suc, _*_, _≤_, _<_}
+use native.Mathlib.Nat.{le-refl}
+use lib.ListN.{length}
+use Rattle.rules.specs.Lists.{keep, tick, sum, any, below}
+use Rattle.rules.specs.Refusals.{Result}
+use Rattle.rules.specs.Refusals.Result.{answer}
+use Rattle.rules.specs.Files.{Head, Train, Case, files}
+use Rattle.rules.specs.Turns.{Place, same, Mark, elements, capacity, State}
+use Rattle.rules.specs.Turns.Place.{gone}
+use Rattle.rules.specs.Single.{trainsOn, single}
+use Rattle.rules.specs.Joint.{covers, choices, whole, weightOf, weight, total, Entry, firstList, jointRules, joint, weightAt}
+use Rattle.rules.specs.Listing.{notArrived}
+use Rattle.sound.specs.Facts.{Sound}
+use Rattle.sound.specs.Accepted.{accepted-sound}
+use Rattle.simulation.specs.Lists.{Every}
+use Rattle.simulation.specs.Orderly.{isStanding, isAt}
+use Rattle.simulation.specs.View.{Choice, view}
+use Rattle.simulation.specs.Simulation.{Sets, joint-sets, Simulates, simulation, Kept, single-kept}
+use Rattle.weights.specs.All.{All, all-same}
+use Rattle.weights.specs.Choices.{weight-covers, weight-all}
+use Rattle.weights.specs.Arrivals.{arrivesIn, arrivesNever, Seen, arrived-weight, arrived-later, notArrived-weight}
+use Rattle.weights.specs.Cutting.{joint-part}
+use Rattle.weights.specs.Trace.{runLists}
+use Rattle.weights.specs.Longest.{passes}
+use Rattle.weights.specs.Room.{met-askers, met-minutes}
+
+module _ (cs bk : List ℕ) (C : Case) (accepted : files cs bk ≡ answer C) where
+  case-sound : Sound C
+  case-sound = accepted-sound cs bk C accepted
+
+  -- ---- demand 3
+
+  -- After every minute m and for every choice x: each train has exactly one standing entry that covers the choice, with the place and due minute that the
+  -- single run gives it (`standing`); the blocks that cover the choice are those of the single run (`blocks`), none twice (`once`); and no station or track
+  -- holds more trains, standing or blocking, than its capacity (`within`).
+  pub demand-3 : (x : List ℕ) → Choice C x → (m : ℕ) → Simulates C x m
+  demand-3 x choice m = simulation C case-sound x choice m
+
+  -- every cover in the list and among the arrivals has one set per train, none of them empty
+  pub covers-filled : (m : ℕ) → Every (λ r. Sets C (r .cover)) (joint C m .list) × Every (λ r. Sets C (r .cover)) (joint C m .arrived)
+  covers-filled m = joint-sets C case-sound m
+
+  -- ---- demand 2
+
+  seen : (m : ℕ) → Seen C m
+  unfolding view
+  seen m = record {
+    seen = λ x choice. simulation C case-sound x choice m .arrived;
+    once = λ x choice k. single-kept C case-sound x choice m .arrives-once k;
+  }
+
+  -- The weight that the joint run has added for train k in minute t, t ≤ m ≤ T, is the sum of the weights of exactly those choices whose single run brings
+  -- the train to its last station in that minute.
+  pub demand-2 : (m : ℕ) → m ≤ C .head .lastMinute → (k t : ℕ) → t ≤ m
+      → weightAt C (joint C m .arrived) k t ≡ sum (weightOf C) (keep (arrivesIn C k t) (choices C))
+  demand-2 m h k t l = arrived-weight C m (seen m) h k t l
+
+  -- nothing has been added for a minute that the run has not reached
+  pub demand-2-later : (m k t : ℕ) → m < t → weightAt C (joint C m .arrived) k t ≡ 0
+  demand-2-later m k t h = arrived-later C m (seen m) k t h
+
+  -- "Not arrived", 100^n less the sum of the train's weights, is the sum over the choices that bring it there in no minute up to T.
+  pub demand-2-not-arrived : (k : ℕ) → notArrived C (joint C (C .head .lastMinute) .arrived) k ≡ sum (weightOf C) (keep (arrivesNever C k) (choices C))
+  demand-2-not-arrived k = notArrived-weight C (seen (C .head .lastMinute)) k case-sound
+
+  -- an entry's weight is the sum of the weights of the choices it covers
+  pub entries-weigh : (m : ℕ) → All (λ r. weight C (r .cover) ≡ sum (λ x. tick (covers (r .cover) x) * weightOf C x) (choices C)) (joint C m .list)
+  entries-weigh m = all-same (λ r part. weight-covers C (r .cover) part) (joint-part C m .list)
+
+  -- all choices together weigh 100^n
+  pub choices-weigh : sum (weightOf C) (choices C) ≡ total C
+  choices-weigh = weight-all C case-sound
+
+  -- ---- the room
+
+  -- Refusal 12 comes exactly when the first list, or the list after some asking entry was served, has more entries than the room; and no other refusal comes.
+  pub room-askers : (m : ℕ) → joint C m .met ≡ cond (any (passes (C .head .room)) (runLists C (jointRules C) (firstList C) m)) 12 0
+  room-askers m = met-askers C case-sound m
+
+  -- It may be tested at the end of each minute.
+  pub room-minutes : (m : ℕ)
+      → joint C m .met ≡ cond (passes (C .head .room) (firstList C) || any (λ n. passes (C .head .room) (joint C n .list)) (below (suc m))) 12 0
+  room-minutes m = met-minutes C case-sound m
