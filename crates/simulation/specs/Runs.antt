@@ -1,5 +1,5 @@
 -- The joint run and the single run of a choice, turn by turn: what the choice sees of the one is the other, and the other is in order.
--- An asker that covers the choice is next in both; one that does not changes nothing that the choice sees. Takes `Sound` as given, and assumes nothing else.
+-- An asker that covers the choice is next in both; one that does not changes nothing that the choice sees. Assumes nothing.
 use mathlib.Core.Path.{_≡_, refl, sym, ap, _∙_, subst}
 use mathlib.Core.Bool.{Bool, true, false, not, cond}
 use mathlib.Core.List.{List, [], _∷_, _++_, map, append-nil}
@@ -35,7 +35,7 @@ module _ {A : Type 0} where
   askers-quiet (a ∷ l) = omega (arith, askers-quiet l)
 
   -- serving an asker leaves one less
-  askers-served : (s : Served A) (b : List (Row A)) (a : A) (c : List (Row A)) → suc (askers (servedRows s b c)) ≡ askers (b ++ (row a true ∷ c))
+  pub askers-served : (s : Served A) (b : List (Row A)) (a : A) (c : List (Row A)) → suc (askers (servedRows s b c)) ≡ askers (b ++ (row a true ∷ c))
   askers-served s b a c =
       omega (
         arith,
@@ -51,7 +51,7 @@ module _ {A : Type 0} where
       f r = tick (r .asking)
 
   -- where nobody asks, however many turns there are, nothing happens
-  serveAll-nobody : (C : Case) (R : Rules A) (k t : ℕ) (e : Place) (rs : List (Row A)) (v : List A) (n : ℕ) → Every (λ r. r .asking ≡ false) rs
+  pub serveAll-nobody : (C : Case) (R : Rules A) (k t : ℕ) (e : Place) (rs : List (Row A)) (v : List A) (n : ℕ) → Every (λ r. r .asking ≡ false) rs
       → serveAll C R k t e rs v n ≡ state (items rs) v n
   unfolding serveAll
   serveAll-nobody C R zero t e rs v n h = refl

@@ -15,7 +15,7 @@ use Rattle.sound.specs.Every.{every-map, every-anywhere}
 use Rattle.sound.specs.Ways.{Apart, legs-apart, legs-outside}
 
 -- what holds of each sound train, and of the train that is not there, holds at any number
-anywhere : (P : Train → Type 0) (C : Case) → Sound C → P absent
+pub anywhere : (P : Train → Type 0) (C : Case) → Sound C → P absent
     → ((t : Train) → SoundTrain (length (C .stations)) (C .tracks) (C .head .lastMinute) t → P t) → (k : ℕ) → P (trainAt C k)
 anywhere P C s a f k = every-anywhere P (C .trains) absent a (every-map f (C .trains) (s .trains-sound)) k
 

@@ -46,7 +46,7 @@ abbrev pub Apart : List Leg → Type 0
 Apart [] = Unit {0}
 Apart (l ∷ ls) = Off (l .place) ls × Apart ls
 
-off-after : (p q : Place) (ls : List Leg) → Off p ls → Off p (after q ls)
+pub off-after : (p q : Place) (ls : List Leg) → Off p ls → Off p (after q ls)
 off-after p q [] o = tt
 off-after p q (l ∷ ls) o = go (same (l .place) q) (off-after p q ls (o .1))
   where
@@ -54,7 +54,7 @@ off-after p q (l ∷ ls) o = go (same (l .place) q) (off-after p q ls (o .1))
     go true r = o .1
     go false r = r
 
-off-head : (p e : Place) (ls : List Leg) → Off p ls → headIs e ls ≡ true → same p e ≡ false
+pub off-head : (p e : Place) (ls : List Leg) → Off p ls → headIs e ls ≡ true → same p e ≡ false
 off-head p e [] o h = absurd (false≢true h)
 off-head p e (l ∷ ls) o h = subst (λ (q : Place). same p q ≡ false) (same-true (l .place) e h) (o .0)
 
@@ -147,7 +147,7 @@ module _ (ts : List Track) where
 -- ---- the way of a train
 
 -- what is ahead of a train stands after its place in the way that begins outside
-ahead-after : (C : Case) (k : ℕ) (p : Place) → ahead C k p ≡ after p (leg outside 0 ∷ way C k)
+pub ahead-after : (C : Case) (k : ℕ) (p : Place) → ahead C k p ≡ after p (leg outside 0 ∷ way C k)
 unfolding ahead same
 ahead-after C k outside = refl
 ahead-after C k (station i) = refl

@@ -103,14 +103,14 @@ module _ {A : Type 0} (C : Case) (R : Rules A) where
 -- ---- what is met
 
 -- what was met first, of three
-first-assoc : (n m k : ℕ) → firstOf (ltb 0 (firstOf (ltb 0 n) n m)) (firstOf (ltb 0 n) n m) k ≡ firstOf (ltb 0 n) n (firstOf (ltb 0 m) m k)
+pub first-assoc : (n m k : ℕ) → firstOf (ltb 0 (firstOf (ltb 0 n) n m)) (firstOf (ltb 0 n) n m) k ≡ firstOf (ltb 0 n) n (firstOf (ltb 0 m) m k)
 first-assoc n m k = go (ltb 0 n) refl
   where
     go : (b : Bool) → ltb 0 n ≡ b → firstOf (ltb 0 (firstOf b n m)) (firstOf b n m) k ≡ firstOf b n (firstOf (ltb 0 m) m k)
     go true e = ap (λ (c : Bool). firstOf c n k) e
     go false e = refl
 
-first-none : (n : ℕ) → firstOf (ltb 0 n) n 0 ≡ n
+pub first-none : (n : ℕ) → firstOf (ltb 0 n) n 0 ≡ n
 first-none zero = refl
 first-none (suc n) = ap (λ (c : Bool). firstOf c (suc n) 0) (lt-ltb 0 (suc n) (omega arith))
 

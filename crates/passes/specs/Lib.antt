@@ -1,0 +1,17 @@
+pub mod Lists
+pub mod Order
+pub mod Passes
+pub mod Marks
+pub mod Walk
+pub mod Visit
+pub mod Elements
+pub mod Runs
+pub mod Room
+pub mod Pass
+pub mod Joint
+pub mod Before
+pub mod Arrivals
+pub mod Alone
+pub mod Single
+pub mod Bounds
+pub mod Few

@@ -1,0 +1,96 @@
+/* The planning desk's calls: the single run, the joint run, the listing and the figures of a shift.
+ *
+ * A case and a book are bytes (docs/FORMATS.md). Every call takes any bytes, damaged ones too: it answers, or it refuses with a number, a file
+ * and a place. Nothing is kept between calls, nothing is allocated, and a call needs less than 512 KiB of stack. */
+#ifndef LAMPREYSONG_H
+#define LAMPREYSONG_H
+
+#include <stddef.h>
+#include <stdint.h>
+
+#ifdef __cplusplus
+extern "C" {
+#endif
+
+/* Refusals: why a call was not answered. */
+enum {
+    LAMPREYSONG_OVERRUN = 1,        /* a field's header or body runs past the end */
+    LAMPREYSONG_UNKNOWN_TAG = 2,    /* tag 0 or above 5 */
+    LAMPREYSONG_MISPLACED = 3,      /* first field no head, a second head, a falling tag; in a book a tag other than 5 */
+    LAMPREYSONG_WRONG_LENGTH = 4,   /* length not possible for the tag */
+    LAMPREYSONG_WRONG_COUNT = 5,    /* one too many; at the end of a case no head, station or train */
+    LAMPREYSONG_OUT_OF_RANGE = 6,   /* last minute, safety time, room or capacity */
+    LAMPREYSONG_WRONG_ENDS = 7,     /* track with an unknown end, equal ends, or the ends of an earlier track */
+    LAMPREYSONG_WRONG_PATH = 8,     /* unknown or repeated station, or a missing track */
+    LAMPREYSONG_WRONG_TIMES = 9,    /* times out of order or past the last minute */
+    LAMPREYSONG_WRONG_TABLE = 10,   /* a delay table breaks a rule */
+    LAMPREYSONG_NO_TABLE = 11,      /* a train's type has no table */
+    LAMPREYSONG_NO_ROOM = 12,       /* the list of entries passes the room */
+    LAMPREYSONG_TOO_HEAVY = 13,     /* the weight of an entry passes 10^14: never given */
+    LAMPREYSONG_TOO_SHORT = 14,     /* lent memory too short: nothing was written */
+    LAMPREYSONG_WRONG_CHOICE = 15,  /* a choice with a wrong count or an index past the table */
+    LAMPREYSONG_NO_TRAIN = 16,      /* no such train */
+    LAMPREYSONG_STOP_TOO_LATE = 17  /* stop minute above the last minute */
+};
+
+/* Bytes that a call must be lent. */
+#define LAMPREYSONG_ROWS 16384u    /* 1,024 rows of 16 bytes */
+#define LAMPREYSONG_WEIGHTS 40320u /* 7 trains by 720 minutes, 8 bytes each */
+#define LAMPREYSONG_TEXT 32768u    /* the listing */
+
+/* The single run's answer for a train that does not arrive by the last minute. */
+#define LAMPREYSONG_NONE 65535u
+
+/* What the single run, the run and the listing answer: 16 bytes. `refusal` is 0 if the call was answered. */
+struct lampreysong_answer {
+    uint16_t refusal;
+    uint16_t file;  /* of the refusal: 0 case, 1 book */
+    uint32_t place; /* of the refusal: an offset in that file */
+    uint64_t value; /* minute of arrival, number of entries, or number of bytes; 0 if refused */
+};
+
+/* Punctuality: never, always, or a share. */
+enum {
+    LAMPREYSONG_REFUSED = 0,
+    LAMPREYSONG_NEVER = 1,
+    LAMPREYSONG_ALWAYS = 2,
+    LAMPREYSONG_SHARE = 3
+};
+
+/* What the figures answer: 96 bytes. All but the first three fields are 0 if the call was refused. */
+struct lampreysong_train_figures {
+    uint16_t refusal;
+    uint16_t file;
+    uint32_t place;
+    uint32_t punctuality;
+    uint32_t zero;
+    double share;       /* where punctuality is a share, else 0 */
+    double on_time;     /* shares of all choices: at most the limit after plan, */
+    double late;        /* later than that, */
+    double not_arrived; /* and not arrived by the last minute */
+    uint64_t lateness;  /* sum of minutes after plan times weight, over the arrived */
+    uint64_t arrived;   /* weight of the arrived */
+    uint64_t kept[4];   /* 0 */
+};
+
+/* The minute in which the choice (one index byte a train) brings the train to its last station. Refuses the files' faults (1 to 11), then 15, 16. */
+struct lampreysong_answer lampreysong_single(const uint8_t *case_bytes, size_t case_length, const uint8_t *book, size_t book_length,
+                                             const uint8_t *choice, size_t choice_length, uint64_t train);
+
+/* The joint run to a stop minute: rows and weights, and the number of entries. Refuses 14, then the files' faults, then 17, then 12. */
+struct lampreysong_answer lampreysong_run(const uint8_t *case_bytes, size_t case_length, const uint8_t *book, size_t book_length, uint64_t stop,
+                                          uint8_t *rows, size_t rows_length, uint8_t *weights, size_t weights_length);
+
+/* The listing over the whole window, with rows and weights after the last minute, and its number of bytes. Refuses 14, the files' faults, 12. */
+struct lampreysong_answer lampreysong_listing(const uint8_t *case_bytes, size_t case_length, const uint8_t *book, size_t book_length, uint8_t *rows,
+                                              size_t rows_length, uint8_t *weights, size_t weights_length, uint8_t *text, size_t text_length);
+
+/* The figures of a train for a limit in minutes, with rows and weights after the last minute. Refuses 14, the files' faults, 16, 12. */
+struct lampreysong_train_figures lampreysong_figures(const uint8_t *case_bytes, size_t case_length, const uint8_t *book, size_t book_length, uint64_t train,
+                                               uint16_t limit, uint8_t *rows, size_t rows_length, uint8_t *weights, size_t weights_length);
+
+#ifdef __cplusplus
+}
+#endif
+
+#endif
