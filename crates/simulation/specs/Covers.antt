@@ -1,11 +1,11 @@
 -- What covers cover: the common part of two covers covers what both cover, and of the outside pieces exactly one covers a choice that is left.
 -- Both are shown train by train, from what a set has after it is met by another. Assumes nothing.
 use mathlib.Core.Path.{_≡_, refl, sym, ap, ap₂, _∙_}
-use mathlib.Core.Bool.{Bool, true, false, not, _&&_, _||_, and-false, false≢true, or-assoc}
+use mathlib.Core.Bool.{Bool, true, false, not, _&&_, _||_, and-false, and-true, false≢true}
 use mathlib.Core.List.{List, [], _∷_, _++_, map, append-nil}
-use Prim.Native.Nat.{ℕ, suc}
+use Prim.Native.Nat.{ℕ, zero, suc, _<_}
 use native.Mathlib.Omega.{arith}
-use lib.ListN.{length}
+use lib.ListN.{length, getD, set}
 use lib.Dec.{eqb}
 use borrow.Author.Tests.{eqb-true}
 use Rattle.rules.specs.Lists.{one, each, keep, any, has}
@@ -88,6 +88,49 @@ apart-covers (d ∷ x) (s ∷ p) h = go (isEmpty s) refl h (apart-covers x p)
     go : (b : Bool) → isEmpty s ≡ b → (b || any isEmpty p) ≡ true → (any isEmpty p ≡ true → covers p x ≡ false) → (has s d && covers p x) ≡ false
     go true q h ih = ap (λ (z : Bool). z && covers p x) (has-empty s d q)
     go false q h ih = ap (λ (z : Bool). has s d && z) (ih h) ∙ and-false (has s d)
+
+-- ---- a choice that is covered
+
+and-left : (a b : Bool) → (a && b) ≡ true → a ≡ true
+and-left true b h = refl
+and-left false b h = h
+
+and-right : (a b : Bool) → (a && b) ≡ true → b ≡ true
+and-right true b h = h
+and-right false b h = absurd (false≢true h)
+
+-- it has a delay for each set
+pub covers-length : (p : Cover) (x : List ℕ) → covers p x ≡ true → length p ≡ length x
+unfolding covers
+covers-length [] [] h = refl
+covers-length [] (d ∷ x) h = absurd (false≢true h)
+covers-length (s ∷ p) [] h = absurd (false≢true h)
+covers-length (s ∷ p) (d ∷ x) h = ap suc (covers-length p x (and-right (has s d) (covers p x) h))
+
+-- and each is in its set
+pub covers-at : (p : Cover) (x : List ℕ) → covers p x ≡ true → (k : ℕ) → k < length p → has (getD p k []) (getD x k 0) ≡ true
+unfolding covers
+covers-at [] x h k l = absurd (omega arith)
+covers-at (s ∷ p) [] h k l = absurd (false≢true h)
+covers-at (s ∷ p) (d ∷ x) h zero l = and-left (has s d) (covers p x) h
+covers-at (s ∷ p) (d ∷ x) h (suc k) l = covers-at p x (and-right (has s d) (covers p x) h) k (omega arith)
+
+-- that is all there is to it
+pub covers-by : (p : Cover) (x : List ℕ) → length p ≡ length x → ((k : ℕ) → k < length p → has (getD p k []) (getD x k 0) ≡ true) → covers p x ≡ true
+unfolding covers
+covers-by [] [] e h = refl
+covers-by [] (d ∷ x) e h = absurd (omega arith)
+covers-by (s ∷ p) [] e h = absurd (omega arith)
+covers-by (s ∷ p) (d ∷ x) e h = ap₂ _&&_ (h 0 (omega arith)) (covers-by p x (omega arith) (λ k l. h (suc k) (omega arith)))
+
+-- with another set for train k it is covered if that set has its delay
+pub covers-set : (p : Cover) (x : List ℕ) → covers p x ≡ true → (k : ℕ) → k < length p → (s : List ℕ) → covers (set p k s) x ≡ has s (getD x k 0)
+unfolding covers
+covers-set [] x h k l s = absurd (omega arith)
+covers-set (u ∷ p) [] h k l s = absurd (false≢true h)
+covers-set (u ∷ p) (d ∷ x) h zero l s = ap (λ (z : Bool). has s d && z) (and-right (has u d) (covers p x) h) ∙ and-true (has s d)
+covers-set (u ∷ p) (d ∷ x) h (suc k) l s =
+    ap₂ (λ (y z : Bool). y && z) (and-left (has u d) (covers p x) h) (covers-set p x (and-right (has u d) (covers p x) h) k (omega arith) s)
 
 -- ---- the outside pieces
 

@@ -11,4 +11,5 @@ pub mod View
 pub mod Serving
 pub mod Runs
 pub mod Start
+pub mod Choices
 pub mod Simulation

@@ -1,7 +1,7 @@
 -- Laws of the lists that the definitions use: `each`, `keep`, `sum`, `count`, `any` and `below`, and a property of every item of a list.
 -- Each is shown by induction on the list. Assumes nothing.
-use mathlib.Core.Path.{_≡_, refl, sym, ap, ap₂, _∙_}
-use mathlib.Core.Bool.{Bool, true, false, not, _&&_, _||_, cond, false≢true, or-assoc, or-true}
+use mathlib.Core.Path.{subst, _≡_, refl, sym, ap, ap₂, _∙_}
+use mathlib.Core.Bool.{Bool, true, false, _||_, cond, false≢true, or-assoc, or-true}
 use mathlib.Core.List.{List, [], _∷_, _++_, map, append-assoc, append-nil}
 use Prim.Native.Nat.{ℕ, zero, suc, _+_, _≤_, _<_}
 use native.Mathlib.Omega.{arith}
@@ -156,6 +156,19 @@ any-every test P Q f (a ∷ l) h q = go (test a) refl q (any-every test P Q f l 
     go true e q ih = f a e (h .0)
     go false e q ih = ih q
 
+-- none passes where each fails, and the other way round
+pub any-none {ℓ} : {A : Type ℓ} (test : A → Bool) (l : List A) → Every (λ a. test a ≡ false) l → any test l ≡ false
+any-none test [] h = refl
+any-none test (a ∷ l) h = ap₂ _||_ (h .0) (any-none test l (h .1))
+
+pub none-any {ℓ} : {A : Type ℓ} (test : A → Bool) (l : List A) → any test l ≡ false → Every (λ a. test a ≡ false) l
+none-any test [] h = tt
+none-any test (a ∷ l) h = go (test a) h (none-any test l)
+  where
+    go : (b : Bool) → (b || any test l) ≡ false → (any test l ≡ false → Every (λ a. test a ≡ false) l) → (b ≡ false) × Every (λ a. test a ≡ false) l
+    go true h ih = absurd (false≢true (sym h))
+    go false h ih = (refl, ih h)
+
 -- where at most one passes, whether one passes says how many do
 pub count-any {ℓ} : {A : Type ℓ} (test : A → Bool) (l : List A) → count test l ≤ 1 → tick (any test l) ≡ count test l
 count-any test [] h = refl
@@ -241,6 +254,10 @@ span-amid (suc n) i j h l = go (eqb i j) refl (λ k. span-amid n (suc i) j k (om
 pub below-amid : (n j : ℕ) → j < n → Amid j (below n)
 below-amid n j h = span-amid n 0 j (omega arith) (omega arith)
 
+-- what every number below n has, each has
+pub below-at : (P : ℕ → Type 0) (n : ℕ) → Every P (below n) → (j : ℕ) → j < n → P j
+below-at P n q j h = let a = below-amid n j h in every-right P (a .front) (j ∷ a .back) (subst (Every P) (a .split) q) .0
+
 -- where one number alone makes something, that is all there is
 pub each-below-in {ℓ} : {B : Type ℓ} (f : ℕ → List B) (j : ℕ) → ((k : ℕ) → (k ≡ j → ⊥) → f k ≡ []) → (n : ℕ) → j < n → each f (below n) ≡ f j
 each-below-in f j other n h =
@@ -285,3 +302,11 @@ below-has n d h = any-every (eqb d) (λ k. k < n) (d < n) (λ k q l. omega (arit
 
 pub below-once : (n d : ℕ) → count (eqb d) (below n) ≤ 1
 below-once n d = omega (arith, sum-below-le (λ k. tick (eqb d k)) d (λ k q. ap tick (ne-eqb d k (λ r. q (sym r)))) n, tick-le (eqb d d))
+
+-- a set has each of its numbers
+pub every-has : (s : List ℕ) → Every (λ d. has s d ≡ true) s
+every-has [] = tt
+every-has (a ∷ s) = (
+  ap (λ (z : Bool). z || has s a) (eq-eqb a a refl),
+  every-more (λ d. has s d ≡ true) (λ d. has (a ∷ s) d ≡ true) (λ d h. ap (λ (z : Bool). eqb d a || z) h ∙ or-true (eqb d a)) s (every-has s),
+)

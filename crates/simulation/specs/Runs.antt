@@ -1,5 +1,5 @@
 -- The joint run and the single run of a choice, turn by turn: what the choice sees of the one is the other, and the other is in order.
--- An asker that covers the choice is next in both; one that does not changes nothing that the choice sees. Assumes nothing.
+-- An asker that covers the choice is next in both; one that does not changes nothing that the choice sees. Takes `Sound` as given, and assumes nothing else.
 use mathlib.Core.Path.{_≡_, refl, sym, ap, _∙_, subst}
 use mathlib.Core.Bool.{Bool, true, false, not, cond}
 use mathlib.Core.List.{List, [], _∷_, _++_, map, append-nil}

@@ -1,21 +1,20 @@
 -- An asker served in the joint run is seen by a choice as served in the single run if the asker covers it, and else as nothing at all.
--- Every cover that results is again a part of the whole one, so the cutting law applies to it. Assumes nothing.
+-- Every cover that results is again a part of the whole one, so the cutting law applies to it. Takes `Sound` as given, and assumes nothing else.
 use mathlib.Core.Path.{_≡_, refl, sym, ap, ap₂, _∙_, subst}
-use mathlib.Core.Bool.{Bool, true, false, not, _&&_, _||_, cond, false≢true}
+use mathlib.Core.Bool.{Bool, true, false, not, _&&_, _||_, cond}
 use mathlib.Core.List.{List, [], _∷_, _++_, map}
-use Prim.Native.Nat.{ℕ, suc}
-use lib.ListN.{length}
+use Prim.Native.Nat.{ℕ}
 use lib.Dec.{leb, ltb, eqb}
 use borrow.Author.Tests.{ltb-true, ltb-false, le-leb, lt-leb}
-use Rattle.rules.specs.Lists.{one, each, keep, count, has}
+use Rattle.rules.specs.Lists.{one, each, keep, count}
 use Rattle.rules.specs.Files.{Case}
 use Rattle.rules.specs.Turns.{Place, same, Mark, capacity, asks, entered, arriving, Served, served, Row, quiet}
 use Rattle.rules.specs.Turns.Place.{gone}
 use Rattle.rules.specs.Single.{trainsOn, enters, serveTrain}
-use Rattle.rules.specs.Joint.{Cover, covers, whole, Entry, entry, Piece, piece, carry, meets, pieces, serveEntry}
+use Rattle.rules.specs.Joint.{covers, whole, Entry, entry, Piece, piece, carry, meets, pieces, serveEntry}
 use Rattle.sound.specs.Facts.{Sound}
 use Rattle.simulation.specs.Lists.{Every, every-append, every-left, every-right, every-map, every-each, every-one, every-keep, every-all, every-more}
-use Rattle.simulation.specs.Covers.{Fits}
+use Rattle.simulation.specs.Covers.{Fits, covers-length}
 use Rattle.simulation.specs.Cutting.{verdicts, hits}
 use Rattle.simulation.specs.Parts.{Parts, parts-length, carry-parts}
 use Rattle.simulation.specs.Keeping.{servedRows, servedList}
@@ -68,17 +67,6 @@ module _ (C : Case) (t : ℕ) (e : Place) where
       )
 
 -- ---- an asker served, as a choice sees it
-
-covers-length : (p : Cover) (x : List ℕ) → covers p x ≡ true → length p ≡ length x
-unfolding covers
-covers-length [] [] h = refl
-covers-length [] (d ∷ x) h = absurd (false≢true h)
-covers-length (s ∷ p) [] h = absurd (false≢true h)
-covers-length (s ∷ p) (d ∷ x) h = ap suc (covers-length p x (go (has s d) h))
-  where
-    go : (b : Bool) → (b && covers p x) ≡ true → covers p x ≡ true
-    go true e = e
-    go false e = absurd (false≢true e)
 
 -- a proper cover has a set for each train of a choice
 pub proper-fits : (C : Case) (x : List ℕ) → Choice C x → (r : Entry) → Proper C r → Fits x (r .cover)

@@ -1,5 +1,5 @@
 -- Demand 3 about the definitions: for a sound case, every choice x and every minute m, what x sees of the joint run is the single run of x, in order.
--- Both runs start alike and go on alike, turn by turn (`run-twin`), and the sums of `Orderly` say the rest. Assumes nothing.
+-- Both runs start alike and go on alike, turn by turn (`run-twin`), and the sums of `Orderly` say the rest. Takes `Sound` as given, and assumes nothing else.
 use mathlib.Core.Path.{_≡_, refl, sym, ap, _∙_, subst}
 use mathlib.Core.Bool.{Bool, true, false, not, _&&_}
 use mathlib.Core.List.{List, [], _∷_, _++_, map}
@@ -13,7 +13,7 @@ use Rattle.rules.specs.Files.{Case}
 use Rattle.rules.specs.Turns.{Place, same, Mark, elements, capacity, ended, State}
 use Rattle.rules.specs.Turns.Place.{outside, station, track, gone}
 use Rattle.rules.specs.Single.{firstMarks, trainsOn, single}
-use Rattle.rules.specs.Joint.{Cover, isEmpty, covers, whole, Entry, firstList, jointRules, joint}
+use Rattle.rules.specs.Joint.{Cover, isEmpty, covers, whole, choices, Entry, firstList, jointRules, joint}
 use Rattle.sound.specs.Facts.{Sound}
 use Rattle.simulation.specs.Lists.{Every, every-append, every-map, every-more, every-keep, every-all, length-keep, length-one, below-has, below-once}
 use Rattle.simulation.specs.Keeping.{run-keeps}
@@ -22,6 +22,7 @@ use Rattle.simulation.specs.Parts.{Part, parts-length, parts-at, part-wi
 use Rattle.simulation.specs.View.{Choice, view, view-keep}
 use Rattle.simulation.specs.Serving.{Proper, serve-proper}
 use Rattle.simulation.specs.Start.{whole-at, whole-length, first-proper, first-view, first-orderly}
+use Rattle.simulation.specs.Choices.{choices-choice}
 use Rattle.simulation.specs.Runs.{Twin, run-twin}
 
 -- ---- the covers of the joint run
@@ -146,3 +147,7 @@ simulation C sound x ch m = record {
 
     kept : Kept C (single C x m)
     kept = single-kept C sound x ch m
+
+-- and so for each choice that is listed
+pub simulation-all : (C : Case) → Sound C → (m : ℕ) → Every (λ x. Simulates C x m) (choices C)
+simulation-all C sound m = every-more (Choice C) (λ x. Simulates C x m) (λ x ch. simulation C sound x ch m) (choices C) (choices-choice C)

@@ -1,22 +1,23 @@
 -- The first list: its covers are parts of the whole cover, a choice sees each train waiting once, due by its own delay, and those marks are in order.
--- Of a train's entries the one with the choice's delay alone covers the choice. Assumes nothing.
-use mathlib.Core.Path.{_≡_, refl, sym, ap, ap₂, _∙_, subst}
-use mathlib.Core.Bool.{Bool, true, false, _&&_, _||_, false≢true, and-true}
+-- Of a train's entries the one with the choice's delay alone covers the choice. Takes `Sound` as given, and assumes nothing else.
+use mathlib.Core.Path.{_≡_, refl, sym, ap, _∙_, subst}
+use mathlib.Core.Bool.{Bool, true, false, _&&_, _||_, false≢true}
 use mathlib.Core.List.{List, [], _∷_, map}
 use Prim.Native.Nat.{ℕ, zero, suc, _+_, _≤_, _<_}
 use native.Mathlib.Nat.{le-trans, le-of-eq}
 use native.Mathlib.Omega.{arith}
 use lib.ListN.{length, getD, set, length-map, List·getD-map}
 use lib.Dec.{ltb, eqb}
-use borrow.Author.Tests.{eqb-true, eqb-false, ltb-true, eq-eqb, ne-eqb}
-use Rattle.rules.specs.Lists.{one, tick, sum, count, span, below, has}
+use borrow.Author.Tests.{ltb-true, eq-eqb, ne-eqb}
+use Rattle.rules.specs.Lists.{one, tick, sum, count, below, has}
 use Rattle.rules.specs.Files.{Pair, Case}
 use Rattle.rules.specs.Turns.{Place, same, Mark, lastStation}
 use Rattle.rules.specs.Turns.Place.{outside}
 use Rattle.rules.specs.Single.{waits, firstMarks}
-use Rattle.rules.specs.Joint.{Cover, isEmpty, covers, whole, entry, firstList}
+use Rattle.rules.specs.Joint.{isEmpty, covers, whole, entry, firstList}
 use Rattle.sound.specs.Facts.{Sound}
 use Rattle.simulation.specs.Lists.{each-map, each-each, each-every, each-self, each-alone, each-below-in, has-below, below-has, Every, every-map, every-each, every-all, every-below, tick-le, sum-map, sum-same, sum-zero, sum-below-le, sum-below-in}
+use Rattle.simulation.specs.Covers.{covers-at, covers-set}
 use Rattle.simulation.specs.Parts.{Part, Parts, parts-set}
 use Rattle.simulation.specs.Places.{same-eq, same-self}
 use Rattle.simulation.specs.Orderly.{isOn, isStanding, toGo, isBefore, reach, Orderly}
@@ -74,31 +75,6 @@ module _ (C : Case) (sound : Sound C) where
       (below (length (C .trains))) (every-below (length (C .trains)))
 
 -- ---- the first marks that a choice sees
-
-and-left : (a b : Bool) → (a && b) ≡ true → a ≡ true
-and-left true b h = refl
-and-left false b h = h
-
-and-right : (a b : Bool) → (a && b) ≡ true → b ≡ true
-and-right true b h = h
-and-right false b h = absurd (false≢true h)
-
--- a covered choice has a delay of each set
-pub covers-at : (p : Cover) (x : List ℕ) → covers p x ≡ true → (k : ℕ) → k < length p → has (getD p k []) (getD x k 0) ≡ true
-unfolding covers
-covers-at [] x h k l = absurd (omega arith)
-covers-at (s ∷ p) [] h k l = absurd (false≢true h)
-covers-at (s ∷ p) (d ∷ x) h zero l = and-left (has s d) (covers p x) h
-covers-at (s ∷ p) (d ∷ x) h (suc k) l = covers-at p x (and-right (has s d) (covers p x) h) k (omega arith)
-
--- with another set for train k, the cover covers it if that set has its delay
-covers-set : (p : Cover) (x : List ℕ) → covers p x ≡ true → (k : ℕ) → k < length p → (s : List ℕ) → covers (set p k s) x ≡ has s (getD x k 0)
-unfolding covers
-covers-set [] x h k l s = absurd (omega arith)
-covers-set (u ∷ p) [] h k l s = absurd (false≢true h)
-covers-set (u ∷ p) (d ∷ x) h zero l s = ap (λ (z : Bool). has s d && z) (and-right (has u d) (covers p x) h) ∙ and-true (has s d)
-covers-set (u ∷ p) (d ∷ x) h (suc k) l s =
-    ap₂ (λ (y z : Bool). y && z) (and-left (has u d) (covers p x) h) (covers-set p x (and-right (has u d) (covers p x) h) k (omega arith) s)
 
 module _ (C : Case) (sound : Sound C) (x : List ℕ) (ch : Choice C x) where
   in-tables : (k : ℕ) → k < length (C .trains) → k < length (whole C)

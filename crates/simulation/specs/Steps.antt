@@ -1,5 +1,5 @@
 -- Each step keeps order: a mark that enters counts no more than the asker that it was, and a held asker or an ended block adds nothing.
--- An asker comes nearer to the end of its way, so a place that it comes to was ahead of it before. Assumes nothing.
+-- An asker comes nearer to the end of its way, so a place that it comes to was ahead of it before. Takes `Sound` as given, and assumes nothing else.
 use mathlib.Core.Path.{_≡_, refl, sym, ap, ap₂, _∙_, subst, subst₂}
 use mathlib.Core.Bool.{Bool, true, false, not, _&&_, _||_, cond, and-false, and-true}
 use mathlib.Core.List.{List, [], _∷_, _++_, append-nil, append-assoc}

@@ -1,5 +1,5 @@
 -- What a choice sees of the joint run, and that it sees an asker served as the single run serves it.
--- The pieces give the choice one verdict, and other trains' entries that cover it are as many as the trains on the element, by the order kept. Assumes nothing.
+-- The pieces give the choice one verdict, and other trains' entries that cover it are as many as the trains on the element, by the order kept. Takes `Sound` as given, and assumes nothing else.
 use mathlib.Core.Path.{_≡_, refl, sym, ap, _∙_}
 use mathlib.Core.Bool.{Bool, true, false, not, _&&_, cond}
 use mathlib.Core.List.{List, [], _∷_, _++_, map, append-nil}
