@@ -1,0 +1,3 @@
+pub mod Bodies
+pub mod Search
+pub mod Agree

@@ -1,0 +1,12 @@
+pub mod Reading
+pub mod Facts
+pub mod Laws
+pub mod Places
+pub mod Bounds
+pub mod Holds
+pub mod More
+pub mod Answers
+pub mod Agree
+pub mod Final
+pub mod Decoded
+pub mod Stands
