@@ -1,24 +1,20 @@
 -- Demands 2 and 3 about the definitions, for every case that the reading accepts from bytes. Each is in the words of the demand, and its proof cites
 -- the crates below: `sound` (what the reading makes true), `simulation` (what a choice sees), `weights` (sums over choices). Assumes nothing.
-use mathlib.Core.Path.{_≡_, refl, ap, _∙_}
-use mathlib.Core.Bool.{Bool, true, false, _&&_, _||_, cond}
-use mathlib.Core.List.{List, [], _∷_, map}
+use mathlib.Core.Path.{_≡_}
+use mathlib.Core.Bool.{Bool, true, _||_, cond}
+use mathlib.Core.List.{List}
 use Prim.Native.Nat.{ℕ, suc, _*_, _≤_, _<_}
-use native.Mathlib.Nat.{le-refl}
-use lib.ListN.{length}
 use Rattle.rules.specs.Lists.{keep, tick, sum, any, below}
 use Rattle.rules.specs.Refusals.{Result}
 use Rattle.rules.specs.Refusals.Result.{answer}
 use Rattle.rules.specs.Files.{Head, Train, Case, files}
-use Rattle.rules.specs.Turns.{Place, same, Mark, elements, capacity, State}
-use Rattle.rules.specs.Turns.Place.{gone}
-use Rattle.rules.specs.Single.{trainsOn, single}
-use Rattle.rules.specs.Joint.{covers, choices, whole, weightOf, weight, total, Entry, firstList, jointRules, joint, weightAt}
+use Rattle.rules.specs.Turns.{Place, Mark, capacity, State}
+use Rattle.rules.specs.Single.{single}
+use Rattle.rules.specs.Joint.{covers, choices, weightOf, weight, total, Entry, firstList, jointRules, joint, weightAt}
 use Rattle.rules.specs.Listing.{notArrived}
 use Rattle.sound.specs.Facts.{Sound}
 use Rattle.sound.specs.Accepted.{accepted-sound}
 use Rattle.simulation.specs.Lists.{Every}
-use Rattle.simulation.specs.Orderly.{isStanding, isAt}
 use Rattle.simulation.specs.View.{Choice, view}
 use Rattle.simulation.specs.Simulation.{Sets, joint-sets, Simulates, simulation, Kept, single-kept}
 use Rattle.weights.specs.All.{All, all-same}
