@@ -1,0 +1,5 @@
+pub mod Writing
+pub mod Filled
+pub mod Below
+pub mod Rows
+pub mod Entries

@@ -1,0 +1,4 @@
+pub mod Arrivals
+pub mod Suffices
+pub mod Text
+pub mod Printed
