@@ -7,7 +7,7 @@ use Prim.Native.Nat.{ℕ, zero, suc, _+_, _-_, _≤_, _<_}
 use native.Mathlib.Numerals.{add-one}
 use native.Mathlib.Omega.{arith}
 use lib.Dec.{leb, ltb, eqb}
-use borrow.Author.Tests.{le-leb, lt-leb, eq-eqb, ne-eqb, ltb-true, ltb-false, eqb-true, eqb-false}
+use borrow.Author.Tests.{le-leb, lt-leb, ne-eqb, ltb-true, ltb-false}
 use Rattle.rules.specs.Lists.{any, sum, span, below, has}
 use Rattle.rules.specs.Files.{Stop, anyStep, repeats, lastOf, rising}
 use Rattle.bodies.specs.Bodies.{anyBelow, sumBelow}
@@ -176,13 +176,6 @@ step-below f g (suc (suc n)) =
     ∙ ap (λ (x : Bool). x || f (g n) (g (suc n))) (sym (ap (anyStep f) (below-last g n)) ∙ step-below f g (suc n))
     ∙ or-last (f (g n) (g (suc n))) (anyBelow (afterFirst (λ i k. f (g i) (g k))) (suc n))
     ∙ ap (λ (x : Bool). cond x true (anyBelow (afterFirst (λ i k. f (g i) (g k))) (suc n))) (sym (after-suc (λ i k. f (g i) (g k)) n))
-
-eqb-sym : (a b : ℕ) → eqb a b ≡ eqb b a
-eqb-sym a b = go (eqb b a) refl
-  where
-    go : (x : Bool) → eqb b a ≡ x → eqb a b ≡ x
-    go true e = eq-eqb a b (sym (eqb-true b a e))
-    go false e = ne-eqb a b (λ q. eqb-false b a e (sym q))
 
 repeats-last : (l : List ℕ) (a : ℕ) → repeats (l ++ (a ∷ [])) ≡ repeats l || any (λ x. eqb x a) l
 repeats-last [] a = refl

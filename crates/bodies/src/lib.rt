@@ -6,6 +6,7 @@ ghost use Prim.Native.Nat.{_+_, _*_, _≤_, _<_};
 ghost use lib.ListN.{length, getD};
 ghost use Rattle.bodies.specs.Bodies.{headVerdict, stationVerdict, ends, joined, trackVerdict, repeated, badStop, badTime, trainVerdict, timesVerdict, badPair, pairsVerdict, tableVerdict, badLength};
 
+// A head: last minute, safety time and room are in range.
 pub fn head_verdict(body: &[u8]) -> usize
     ensures { λ r. ⌜ r ≡ headVerdict (now (body .entry)) ⌝ }
 {
@@ -30,6 +31,7 @@ pub fn head_verdict(body: &[u8]) -> usize
     0
 }
 
+// A station: its capacity is in range; a byte is at most 255.
 pub fn station_verdict(body: &[u8]) -> usize
     ensures { λ r. ⌜ r ≡ stationVerdict (now (body .entry)) ⌝ }
 {
@@ -65,6 +67,7 @@ pub fn has_track(earlier: &[u8], base: usize, n: usize, f: usize, t: usize) -> b
     false
 }
 
+// A track: its capacity is in range, and its ends are two known stations that no earlier track joins this way.
 pub fn track_verdict(earlier: &[u8], base: usize, n: usize, stations: usize, body: &[u8]) -> usize
     requires { ⌜ (base ≤ 4096) × (n ≤ 40) ⌝ }
     ensures { λ r. ⌜ r ≡ trackVerdict (now (earlier .entry)) base n stations (now (body .entry)) ⌝ }
@@ -105,6 +108,7 @@ fn again(body: &[u8], k: usize) -> bool
     false
 }
 
+// Whether stop k has an unknown or repeated station, or no track leads to it from the stop before.
 fn bad_stop(earlier: &[u8], base: usize, n: usize, stations: usize, body: &[u8], k: usize) -> bool
     requires { ⌜ (base ≤ 4096) × (n ≤ 40) × (k ≤ 65536) ⌝ }
     ensures { λ r. ⌜ r ≡ badStop (now (earlier .entry)) base n stations (now (body .entry)) k ⌝ }
@@ -126,6 +130,7 @@ fn bad_stop(earlier: &[u8], base: usize, n: usize, stations: usize, body: &[u8],
     true
 }
 
+// Whether the train leaves stop k before it comes, or comes no later than it left the stop before.
 fn bad_time(body: &[u8], k: usize) -> bool
     requires { ⌜ k ≤ 65536 ⌝ }
     ensures { λ r. ⌜ r ≡ badTime (now (body .entry)) k ⌝ }
@@ -142,6 +147,7 @@ fn bad_time(body: &[u8], k: usize) -> bool
     come <= before
 }
 
+// A train: first its path, then its times.
 pub fn train_verdict(earlier: &[u8], base: usize, n: usize, stations: usize, body: &[u8]) -> usize
     requires { ⌜ (base ≤ 4096) × (n ≤ 40) × (2 ≤ length (now body)) × (length (now body) ≤ 65536) ⌝ }
     ensures { λ r. ⌜ r ≡ trainVerdict (now (earlier .entry)) base n stations (now (body .entry)) ⌝ }
@@ -176,6 +182,7 @@ fn times_verdict(earlier: &[u8], body: &[u8]) -> usize
     0
 }
 
+// Whether pair k has no weight, or a delay that does not rise.
 fn bad_pair(body: &[u8], k: usize) -> bool
     requires { ⌜ k ≤ 65536 ⌝ }
     ensures { λ r. ⌜ r ≡ badPair (now (body .entry)) k ⌝ }
@@ -189,6 +196,7 @@ fn bad_pair(body: &[u8], k: usize) -> bool
     fields::byte(body, 2 * k + 1) <= fields::byte(body, 2 * (k - 1) + 1)
 }
 
+// A delay table after others, the last of which has the type `last`.
 pub fn table_verdict(tables: usize, last: usize, body: &[u8]) -> usize
     requires { ⌜ (1 ≤ length (now body)) × (length (now body) ≤ 65536) ⌝ }
     ensures { λ r. ⌜ r ≡ tableVerdict tables last (now (body .entry)) ⌝ }
@@ -202,6 +210,7 @@ pub fn table_verdict(tables: usize, last: usize, body: &[u8]) -> usize
     pairs_verdict(body)
 }
 
+// The pairs of a table, and the sum of their weights.
 fn pairs_verdict(body: &[u8]) -> usize
     requires { ⌜ (1 ≤ length (now body)) × (length (now body) ≤ 65536) ⌝ }
     ensures { λ r. ⌜ r ≡ pairsVerdict (now (body .entry)) ⌝ }

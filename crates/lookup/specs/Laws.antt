@@ -47,21 +47,6 @@ module _ {f : ℕ → Bool} {l : List ℕ} {i : ℕ} (h : Left f l i) where
       go zero a b d = absurd (omega arith)
       go (suc n) a b d = record { inside = d; turns = n; enough = omega arith; same = b }
 
--- it never leaves the file
-seek-inside : (f : ℕ → Bool) (n : ℕ) (l : List ℕ) (i : ℕ) → i ≤ length l → seek f n l i ≤ length l
-unfolding seek
-seek-inside f zero l i h = omega arith
-seek-inside f (suc n) l i h = go (whole l i) refl (f i) (λ k. seek-inside f n l (past l i) k)
-  where
-    go : (b : Bool) → whole l i ≡ b → (d : Bool) → (past l i ≤ length l → seek f n l (past l i) ≤ length l) → cond b (cond d i (seek f n l (past l i))) (length l) ≤ length l
-    go true e true ih = h
-    go true e false ih = ih (within l i e)
-    go false e d ih = omega arith
-
-pub first-inside : (f : ℕ → Bool) (l : List ℕ) → firstPlace f l ≤ length l
-unfolding firstPlace
-first-inside f l = seek-inside f (suc (length l)) l 0 (omega arith)
-
 module _ (l : List ℕ) (i : ℕ) where
   pub body-whole : {e : ℕ} → whole l i ≡ true → e ≡ past l i → take (e - (i + 3)) (drop (i + 3) l) ≡ bodyAt l i
   unfolding bodyAt

@@ -25,6 +25,7 @@ pub enum Files {
     Unsound(usize, usize, usize),
 }
 
+// Whether the field at i is a delay table of type t.
 fn is_table(file: &[u8], t: usize, i: usize) -> bool
     requires { ⌜ i + 3 ≤ length (now file) ⌝ }
     ensures { λ r. ⌜ r ≡ isTable (now (file .entry)) t i ⌝ }
@@ -86,6 +87,7 @@ pub fn table<'a>(case: &'a [u8], book: &'a [u8], t: usize) -> &'a [u8]
     body_at(book, j)
 }
 
+// Whether neither file has a table of type t.
 fn no_table(case: &[u8], book: &[u8], t: usize) -> bool
     ensures { λ r. ⌜ r ≡ untabled (now (case .entry)) (now (book .entry)) t ⌝ }
 {
@@ -96,6 +98,7 @@ fn no_table(case: &[u8], book: &[u8], t: usize) -> bool
     book.len() <= table_at(book, t)
 }
 
+// Whether the field at i is a train whose type has no table.
 fn lacks_table(case: &[u8], book: &[u8], i: usize) -> bool
     requires { ⌜ i + 3 ≤ length (now case) ⌝ }
     ensures { λ r. ⌜ r ≡ lacks (now (case .entry)) (now (book .entry)) i ⌝ }
@@ -179,6 +182,7 @@ pub fn train_table<'a>(case: &'a [u8], book: &'a [u8], k: usize) -> &'a [u8]
     table(case, book, t)
 }
 
+// The answer of a file that was refused.
 fn of_file(f: usize, r: Reading) -> Files
     ensures { λ a. ⌜ a ≡ ofFile f r ⌝ }
 {

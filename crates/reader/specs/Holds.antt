@@ -11,7 +11,7 @@ use lib.Dec.{leb, ltb, eqb}
 use borrow.Author.Tests.{lt-ltb, le-ltb, eq-eqb, ne-eqb, ltb-true, ltb-false, leb-true, leb-false, eqb-true, eqb-false}
 use Rattle.rules.specs.Lists.{any}
 use Rattle.rules.specs.Refusals.{verdict, firstOf}
-use Rattle.rules.specs.Files.{File, Head, Track, Contents, headOf, trackOf, byte, word, size, body, known, inPlace, most, howMany, leads, bodyRules, fieldRules}
+use Rattle.rules.specs.Files.{File, Head, Track, Contents, headOf, trackOf, byte, word, size, known, inPlace, most, howMany, leads, bodyRules, fieldRules}
 use Rattle.rules.specs.Files.File.{case, book}
 use Rattle.bodies.specs.Bodies.{ends, joined, badLength}
 use Rattle.bodies.specs.Search.{any-same}
@@ -168,9 +168,6 @@ module _ (f : File) (l : List ℕ) (s : Seen) (c : Contents) (h : Holds f l s c)
 
   pub size-here : size (drop (s .at) l) ≡ sizeOf l s
   size-here = word-drop l (s .at) 1 (s .at + 1) refl
-
-  pub body-here : body (drop (s .at) l) ≡ bodyOf l s
-  body-here = rw (size-here, drop-drop 3 (s .at) l)
 
   pub field-agrees : verdict (fieldRules f c (s .at) (drop (s .at) l)) ≡ fieldVerdict (isBook f) l s
   unfolding fieldRules fieldVerdict frameVerdict

@@ -10,3 +10,4 @@ pub mod Agree
 pub mod Final
 pub mod Decoded
 pub mod Stands
+pub mod Numbers

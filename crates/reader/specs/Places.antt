@@ -1,4 +1,5 @@
--- Where the tracks of a case stand: track k's field begins at 8 for the head, 4 for each station and 6 for each track before it, and later fields leave that so. Assumes nothing.
+-- Where the tracks of a case stand: track k begins at 8 for the head, 4 for each station and 6 for each track before it; each tag moves the
+-- offset by its own field, since tags never fall. Assumes nothing.
 use mathlib.Core.Path.{_≡_, refl}
 use mathlib.Core.Bool.{Bool, true, false, cond, not, true≢false}
 use mathlib.Core.List.{List}
@@ -68,20 +69,3 @@ module _ (l : List ℕ) (s : Seen) (p : Placed s) where
     pub placed-next : Placed (next l s)
     unfolding next
     placed-next = placed-after (tagOf l s) (sizeOf l s) (getD l (s .at + 3) 0) (field-framed l false s w h)
-
-    -- a track's field begins where its number says
-    pub track-place : tagOf l s ≡ 3 → s .at ≡ base s + 6 * s .tracks
-    track-place e =
-        let f = field-framed l false s w h in
-        let r = rises s (tagOf l s) (f .placed) (λ z. omega arith) in
-        p .so-far (omega arith)
-
-    -- and from the first track on no field moves them
-    pub base-kept : 3 ≤ tagOf l s → base (next l s) ≡ base s
-    unfolding next after counted
-    base-kept k = go (eqb (tagOf l s) 1) refl (eqb (tagOf l s) 2) refl
-      where
-        go : (a : Bool) → eqb (tagOf l s) 1 ≡ a → (b : Bool) → eqb (tagOf l s) 2 ≡ b → 8 * cond a (s .heads + 1) (s .heads) + 4 * cond b (s .stations + 1) (s .stations) ≡ base s
-        go true e b d = let z = eqb-true (tagOf l s) 1 e in absurd (omega arith)
-        go false e true d = let z = eqb-true (tagOf l s) 2 d in absurd (omega arith)
-        go false e false d = refl

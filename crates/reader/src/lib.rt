@@ -11,7 +11,7 @@ ghost use Rattle.rules.specs.Files as files;
 ghost use Rattle.reader.specs.Answers.{readingOf};
 ghost use Rattle.reader.specs.Facts.{Within};
 
-// What has been seen of a file up to the next field's tag.
+// What has been seen of a file up to the next field's tag: its offset, the last tag, how many fields of each tag, and the last table's type.
 pub struct Seen {
     pub at: usize,
     pub tag: usize,
@@ -43,6 +43,7 @@ pub enum Reading {
     Refused(usize, usize),
 }
 
+// 3: in a case a first field that is no head, a second head or a falling tag; in a book a tag other than 5.
 fn out_of_place(book: bool, s: Seen, tag: usize) -> bool
     ensures { λ r. ⌜ r ≡ outOfPlace book s tag ⌝ }
 {
@@ -58,6 +59,7 @@ fn out_of_place(book: bool, s: Seen, tag: usize) -> bool
     tag < s.tag
 }
 
+// 5: one station, track, train or table too many.
 fn one_too_many(s: Seen, tag: usize) -> bool
     ensures { λ r. ⌜ r ≡ tooMany s tag ⌝ }
 {
@@ -76,6 +78,7 @@ fn one_too_many(s: Seen, tag: usize) -> bool
     false
 }
 
+// 2, 3, 4, 1 and 5, in this order, of a field with this tag and n bytes of body, in a file of this size.
 fn frame_verdict(size: usize, book: bool, s: Seen, tag: usize, n: usize) -> usize
     requires { ⌜ (s .at + 3 ≤ size) × (n < 65536) × (size < 9223372036854775808) ⌝ }
     ensures { λ r. ⌜ r ≡ frameVerdict size book s tag n ⌝ }
@@ -101,6 +104,7 @@ fn frame_verdict(size: usize, book: bool, s: Seen, tag: usize, n: usize) -> usiz
     0
 }
 
+// 6 to 10, by tag, of the body b after the earlier bytes of the file.
 fn body_verdict(earlier: &[u8], s: Seen, tag: usize, b: &[u8]) -> usize
     requires { ⌜ (s .heads ≤ 1) × (s .stations ≤ 24) × (s .tracks ≤ 40) ⌝ }
     requires { ⌜ (1 ≤ tag) × (tag ≤ 5) × (badLength tag (length (now b)) ≡ false) ⌝ }
@@ -133,6 +137,7 @@ fn body_verdict(earlier: &[u8], s: Seen, tag: usize, b: &[u8]) -> usize
     bodies::table_verdict(s.tables, s.kind, b)
 }
 
+// The count n of the fields of tag k, after a field of this tag.
 fn one_more(tag: usize, k: usize, n: usize) -> usize
     requires { ⌜ n ≤ 1000 ⌝ }
     ensures { λ r. ⌜ r ≡ counted tag k n ⌝ }
@@ -143,6 +148,7 @@ fn one_more(tag: usize, k: usize, n: usize) -> usize
     n
 }
 
+// The type of the last table, after a field of this tag whose body starts with b.
 fn newest(tag: usize, b: usize, kind: usize) -> usize
     ensures { λ r. ⌜ r ≡ newer tag b kind ⌝ }
 {
@@ -188,6 +194,7 @@ fn field_verdict(file: &[u8], book: bool, s: Seen) -> usize
     body_verdict(&file[..at], s, tag, &file[b..b + n])
 }
 
+// What has been seen after the field at s.at.
 fn passed(file: &[u8], s: Seen) -> Seen
     requires { ⌜ Within (now file) s ⌝ }
     ensures { λ r. ⌜ r ≡ next (now (file .entry)) s ⌝ }
@@ -199,7 +206,7 @@ fn passed(file: &[u8], s: Seen) -> Seen
     grown(s, tag, at + 3 + n, b)
 }
 
-// The field at s.at.
+// The field at s.at, judged.
 fn judge(file: &[u8], book: bool, s: Seen) -> Judged
     requires { ⌜ Within (now file) s ⌝ }
     ensures { λ r. ⌜ r ≡ fieldOf book (now (file .entry)) s ⌝ }
@@ -221,6 +228,7 @@ fn refused(f: Judged, at: usize) -> Reading
     }
 }
 
+// What an accepted file holds, from what has been seen of it.
 fn held(s: Seen) -> Counts
     ensures { λ r. ⌜ r ≡ countsSeen s ⌝ }
 {
