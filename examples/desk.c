@@ -1,0 +1,76 @@
+/* A small planning desk: prints the listing of a case and the figures of each of its trains.
+ *
+ * Use: desk CASE [BOOK [LIMIT]]      LIMIT is how many minutes after plan still count as on time; 0 if left out */
+#include <inttypes.h>
+#include <stdio.h>
+#include <stdlib.h>
+
+#include "lampreysong.h"
+
+/* At most the first 4,096 bytes of a file are handed on; what stands past them never changes the answer. */
+enum { HANDED = 4096 };
+
+static size_t read_file(const char *name, uint8_t *bytes)
+{
+    FILE *file = fopen(name, "rb");
+    size_t length = 0;
+    if (file != NULL) {
+        length = fread(bytes, 1, HANDED, file);
+        fclose(file);
+    }
+    return length;
+}
+
+static void print_punctuality(struct lampreysong_train_figures f)
+{
+    switch (f.punctuality) {
+    case LAMPREYSONG_NEVER:
+        printf("never on time");
+        break;
+    case LAMPREYSONG_ALWAYS:
+        printf("always on time");
+        break;
+    default:
+        printf("on time in %.2f of 100", f.share * 100);
+    }
+}
+
+static void print_figures(uint64_t train, struct lampreysong_train_figures f)
+{
+    printf("train %" PRIu64 ": ", train);
+    print_punctuality(f);
+    printf("; late %.2f, not arrived %.2f of 100", f.late * 100, f.not_arrived * 100);
+    if (f.arrived > 0)
+        printf("; %.2f minutes late on average", (double)f.lateness / (double)f.arrived);
+    printf("\n");
+}
+
+int main(int count, char **words)
+{
+    static uint8_t case_bytes[HANDED], book[HANDED], rows[LAMPREYSONG_ROWS], weights[LAMPREYSONG_WEIGHTS], text[LAMPREYSONG_TEXT];
+    size_t case_length, book_length;
+    uint16_t limit;
+    struct lampreysong_answer listing;
+
+    if (count < 2 || count > 4) {
+        fprintf(stderr, "use: desk CASE [BOOK [LIMIT]]\n");
+        return 2;
+    }
+    case_length = read_file(words[1], case_bytes);
+    book_length = count > 2 ? read_file(words[2], book) : 0;
+    limit = count > 3 ? (uint16_t)strtoul(words[3], NULL, 10) : 0;
+
+    listing = lampreysong_listing(case_bytes, case_length, book, book_length, rows, sizeof rows, weights, sizeof weights, text, sizeof text);
+    if (listing.refusal != 0) {
+        printf("refused %u in the %s at byte %u\n", (unsigned)listing.refusal, listing.file == 0 ? "case" : "book", (unsigned)listing.place);
+        return 1;
+    }
+    fwrite(text, 1, (size_t)listing.value, stdout);
+    for (uint64_t train = 0;; train++) {
+        struct lampreysong_train_figures f =
+            lampreysong_figures(case_bytes, case_length, book, book_length, train, limit, rows, sizeof rows, weights, sizeof weights);
+        if (f.refusal != 0)
+            return 0;
+        print_figures(train, f);
+    }
+}
