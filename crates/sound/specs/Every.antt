@@ -10,7 +10,7 @@ use lib.ListN.{length, getD}
 use lib.Dec.{eqb}
 use borrow.Author.Tests.{eqb-true, eqb-false}
 use Rattle.rules.specs.Lists.{one, keep, any, tick, sum, span, has}
-use Rattle.rules.specs.Files.{Stop, anyStep}
+use Rattle.rules.specs.Files.{Stop, lastOf, anyStep}
 use Rattle.sound.specs.Facts.{Every, Steps}
 
 -- ---- tests
@@ -145,3 +145,9 @@ anyStep-none broken f [] h = tt
 anyStep-none broken f (a ∷ []) h = tt
 anyStep-none broken f (a ∷ (b ∷ l)) h =
     (f a b (or-false-left (broken a b) (anyStep broken (b ∷ l)) h), anyStep-none broken f (b ∷ l) (or-false-right (broken a b) (anyStep broken (b ∷ l)) h))
+
+-- the last stop has what every stop has
+pub every-last : (P : Stop → Type 0) (l : List Stop) → 1 ≤ length l → Every P l → P (lastOf l)
+every-last P [] n h = absurd (omega arith)
+every-last P (a ∷ []) n h = h .0
+every-last P (a ∷ (b ∷ l)) n h = every-last P (b ∷ l) (omega arith) (h .1)

@@ -7,11 +7,12 @@ use Prim.Native.Nat.{ℕ, suc, _*_, _≤_, _<_}
 use native.Mathlib.Omega.{arith}
 use lib.ListN.{length}
 use Rattle.rules.specs.Lists.{any}
-use Rattle.rules.specs.Files.{Track, Stop, Train, Case, leads, lastOf}
+use Rattle.rules.specs.Files.{Head, Track, Stop, Train, Case, leads, lastOf}
 use Rattle.rules.specs.Turns.{Place, leg, absent, trainAt, trackFrom, legs, way}
 use Rattle.rules.specs.Turns.Place.{outside, station, track, gone}
+use Rattle.rules.specs.Figures.{plan}
 use Rattle.sound.specs.Facts.{Every, Steps, Joined, SoundTrain, Sound}
-use Rattle.sound.specs.Every.{every-map, every-anywhere}
+use Rattle.sound.specs.Every.{every-map, every-at, every-anywhere, every-last}
 use Rattle.sound.specs.Ways.{Apart, legs-apart, legs-outside}
 
 -- what holds of each sound train, and of the train that is not there, holds at any number
@@ -92,3 +93,12 @@ unfolding way
 way-planned C s =
     anywhere (λ t. Every (λ l. l .planned ≤ C .head .lastMinute) (legs (C .tracks) (t .stops))) C s tt
     (λ t u. legs-planned (C .tracks) (C .head .lastMinute) (t .stops) (train-in-time (length (C .stations)) (C .tracks) (C .head .lastMinute) t u) (u .stays))
+
+-- a train is planned to arrive by the last minute
+pub plan-most : (C : Case) → Sound C → (k : ℕ) → k < length (C .trains) → plan C k ≤ C .head .lastMinute
+unfolding plan
+plan-most C s k l =
+    let t : SoundTrain (length (C .stations)) (C .tracks) (C .head .lastMinute) (trainAt C k) =
+    every-at (SoundTrain (length (C .stations)) (C .tracks) (C .head .lastMinute)) (C .trains) absent (s .trains-sound) k l
+    in
+    omega (arith, t .in-time, every-last (λ u. u .arrival ≤ u .departure) (trainAt C k .stops) (omega (arith, t .some-stops)) (t .stays))

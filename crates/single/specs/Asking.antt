@@ -1,0 +1,116 @@
+-- The tests of the run on words are the tests of 01: what a train asks for, whether it is let in, and whether it comes to its last station.
+-- The words show the marks, and the tables hold what the case says of them. Assumes nothing.
+use mathlib.Core.Path.{_≡_, refl, sym, ap, ap₂, _∙_}
+use mathlib.Core.Bool.{Bool, true, false, _&&_, _||_, cond, and-false}
+use mathlib.Core.List.{List}
+use Prim.Native.Nat.{ℕ, _+_, _*_, _≤_, _<_}
+use native.Mathlib.Nat.{mul-one, mul-zero}
+use native.Mathlib.Omega.{arith}
+use lib.ListN.{length, getD}
+use lib.Dec.{leb, ltb, eqb}
+use borrow.Author.Tests.{eqb-true, eqb-false, eq-eqb, ne-eqb, lt-ltb}
+use Rattle.rules.specs.Lists.{tick, sum, count, below}
+use Rattle.rules.specs.Files.{Head, Stop, Train, Case}
+use Rattle.rules.specs.Turns.{Place, same, Mark, absent, trainAt, lastStation, capacity, ahead, headIs, asks, State}
+use Rattle.rules.specs.Turns.Place.{station, gone}
+use Rattle.sound.specs.Facts.{SoundTrain, Sound}
+use Rattle.sound.specs.Every.{every-at, every-last}
+use Rattle.sound.specs.Trains.{Known}
+use Rattle.simulation.specs.Lists.{sum-plus, sum-zero, sum-below-in}
+use Rattle.simulation.specs.Places.{same-self}
+use Rattle.codes.specs.Codes.{codeOf, nowhere, placeOf}
+use Rattle.codes.specs.Tables.{nextCode, tables}
+use Rattle.passes.specs.Passes.{admits}
+use Rattle.single.specs.Words.{wanted, holding, crowd, lets}
+use Rattle.single.specs.Codes.{same-element, known-code, next-code}
+use Rattle.single.specs.Looks.{look-trains, look-goal, look-next, look-capacity}
+use Rattle.single.specs.Sums.{sum-below}
+use Rattle.single.specs.Shows.{standsIn, endIn, blockTerm, Shows}
+
+eqb-swap : (a b : ℕ) → eqb a b ≡ eqb b a
+eqb-swap a b = go (eqb b a) refl
+  where
+    go : (c : Bool) → eqb b a ≡ c → eqb a b ≡ c
+    go true q = eq-eqb a b (sym (eqb-true b a q))
+    go false q = ne-eqb a b (λ h. eqb-false b a q (sym h))
+
+module _ (C : Case) (sound : Sound C) where
+  pub few : {k : ℕ} → k < length (C .trains) → k < 8
+  few l = omega (arith, sound .few-trains)
+
+  -- ---- the last station
+
+  pub last-known : (k : ℕ) → k < length (C .trains) → Known C (lastStation C k)
+  unfolding lastStation
+  last-known k l =
+      let t : SoundTrain (length (C .stations)) (C .tracks) (C .head .lastMinute) (trainAt C k) =
+      every-at (SoundTrain (length (C .stations)) (C .tracks) (C .head .lastMinute)) (C .trains) absent (sound .trains-sound) k l
+      in
+      every-last (λ s. s .station < length (C .stations)) (trainAt C k .stops) (omega (arith, t .some-stops)) (t .known-stations)
+
+  -- whether e is the last station of train k
+  pub goal-last : (k e : ℕ) → k < length (C .trains) → e ≤ 64 → eqb (getD (tables C) (16 + k) 0) e ≡ same (placeOf e) (lastStation C k)
+  goal-last k e l m =
+      let q = known-code C sound (lastStation C k) (last-known k l) in
+      ap (λ (c : ℕ). eqb c e) (look-goal C k (few l) l)
+      ∙ eqb-swap (codeOf (lastStation C k)) e
+      ∙ sym (same-element e (codeOf (lastStation C k)) (q .0))
+      ∙ ap (same (placeOf e)) (q .1)
+
+  module _ (t : ℕ) (w : List ℕ) (s : State Mark) (h : Shows C t w s) where
+    -- ---- who asks
+
+    pub wanted-asks : (k e : ℕ) → k < length (C .trains) → e ≤ 64 → eqb (wanted (tables C) t w k) e ≡ asks C t (placeOf e) (standsIn w k)
+    unfolding wanted asks
+    wanted-asks k e l m =
+        ap (λ (b : Bool). eqb (cond b (cond (leb (getD w (8 + k) 0) t) (getD (tables C) (240 + k * 128 + getD w k 0) 0) nowhere) nowhere) e) (lt-ltb (getD w k 0) 128 (omega (arith, h .placed k l)))
+        ∙ ap (λ (q : ℕ). eqb (cond (leb (getD w (8 + k) 0) t) q nowhere) e) (look-next C k (few l) (getD w k 0) (omega (arith, h .placed k l)))
+        ∙ go (leb (getD w (8 + k) 0) t)
+      where
+        go : (b : Bool) → eqb (cond b (nextCode C k (getD w k 0)) nowhere) e ≡ (headIs (placeOf e) (ahead C k (placeOf (getD w k 0))) && b)
+        go true = sym (next-code C sound k (getD w k 0) e m) ∙ sym (whole (headIs (placeOf e) (ahead C k (placeOf (getD w k 0)))))
+          where
+            whole : (b : Bool) → (b && true) ≡ b
+            whole true = refl
+            whole false = refl
+        go false = ne-eqb nowhere e (λ q. omega arith) ∙ sym (and-false (headIs (placeOf e) (ahead C k (placeOf (getD w k 0)))))
+
+    -- ---- who is let in
+
+    -- the marks on an element
+    pub crowd-count : (e : ℕ) → e ≤ 64 → crowd (tables C) t e w ≡ count (λ a. same (a .place) (placeOf e)) (s .list)
+    unfolding crowd holding
+    crowd-count e m =
+        ap (λ (n : ℕ). sum (λ k. tick (eqb (getD w k 0) e) + tick (ltb t (endIn w e k))) (below n)) (look-trains C)
+        ∙ sum-plus (λ k. tick (eqb (getD w k 0) e)) (λ k. tick (ltb t (endIn w e k))) (below (length (C .trains)))
+        ∙ sym (
+        h .sums (λ a. tick (same (a .place) (placeOf e)))
+        ∙ ap₂ _+_
+        (sum-below (λ k. tick (same (placeOf (getD w k 0)) (placeOf e))) (λ k. tick (eqb (getD w k 0) e)) (length (C .trains)) (λ k l. ap tick (same-element (getD w k 0) e m)))
+        (sum-below-in (λ i. sum (blockTerm t w (λ a. tick (same (a .place) (placeOf e))) i) (below (length (C .trains)))) e other 65 (omega arith)
+        ∙ sum-below (blockTerm t w (λ a. tick (same (a .place) (placeOf e))) e) (λ k. tick (ltb t (endIn w e k))) (length (C .trains))
+        (λ k l. ap (λ (b : Bool). tick (ltb t (endIn w e k)) * tick b) (same-self (placeOf e)) ∙ mul-one (tick (ltb t (endIn w e k)))))
+        )
+      where
+        other : (i : ℕ) → (i ≡ e → ⊥) → sum (blockTerm t w (λ a. tick (same (a .place) (placeOf e))) i) (below (length (C .trains))) ≡ 0
+        other i d =
+            sum-below (blockTerm t w (λ a. tick (same (a .place) (placeOf e))) i) (λ k. 0) (length (C .trains))
+            (λ k l. ap (λ (b : Bool). tick (ltb t (endIn w i k)) * tick b) (same-element i e m ∙ ne-eqb i e d) ∙ mul-zero (tick (ltb t (endIn w i k))))
+            ∙ sum-zero (below (length (C .trains)))
+
+    pub lets-admits : (e : ℕ) → e ≤ 64 → lets (tables C) t e w ≡ admits C (placeOf e) (s .list)
+    unfolding lets admits placeOf
+    lets-admits e m = go (eqb e 64) refl
+      where
+        way-out : same (placeOf e) gone ≡ eqb e 64
+        way-out = same-element e 64 (omega arith)
+
+        go : (b : Bool) → eqb e 64 ≡ b
+            → (eqb e 64 || ltb (crowd (tables C) t e w) (getD (tables C) (176 + e) 0)) ≡ (same (placeOf e) gone || ltb (count (λ a. same (a .place) (placeOf e)) (s .list)) (capacity C (placeOf e)))
+        go true q =
+            ap (λ (z : Bool). z || ltb (crowd (tables C) t e w) (getD (tables C) (176 + e) 0)) q
+            ∙ sym (ap (λ (z : Bool). z || ltb (count (λ a. same (a .place) (placeOf e)) (s .list)) (capacity C (placeOf e))) (way-out ∙ q))
+        go false q =
+            let d : e ≡ 64 → ⊥ = eqb-false e 64 q in
+            ap₂ (λ (y : Bool) (z : ℕ). y || ltb z (getD (tables C) (176 + e) 0)) (sym way-out) (crowd-count e m)
+            ∙ ap (λ (z : ℕ). same (placeOf e) gone || ltb (count (λ a. same (a .place) (placeOf e)) (s .list)) z) (look-capacity C e (omega arith))

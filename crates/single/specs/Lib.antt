@@ -1,0 +1,13 @@
+pub mod Words
+pub mod Turns
+pub mod Codes
+pub mod Looks
+pub mod Sums
+pub mod Shows
+pub mod Passing
+pub mod Asking
+pub mod Entering
+pub mod Serving
+pub mod Waiting
+pub mod Runs
+pub mod Low

@@ -1,0 +1,24 @@
+-- `words::put` meets its contract: past the end nothing is written. Assumes nothing.
+use mathlib.Core.Path.{sym}
+use lib.Seq.{set-out}
+use borrow.Author.Needs.{needs}
+use Rattle.words.proofs.put.Statement.{statement}
+use Rattle.words.proofs.put.Tie as tie
+
+mul-l : tie.Need-mul-l
+mul-l c = search needs
+
+slice-write-l : tie.Need-slice-write-l
+slice-write-l c = search needs
+
+same-length : tie.Need-same-length
+same-length c = search needs
+
+returns : tie.Need-returns
+returns c = search needs
+
+returns-2 : tie.Need-returns-2
+returns-2 c = sym (set-out _ _ _ (c .if1 .left))
+
+pub put-spec : {M : Type 1} → statement M
+put-spec = tie.close (tie.spec mul-l slice-write-l same-length returns returns-2)
