@@ -52,7 +52,7 @@ AllBounded C mark l = Every (λ a. Bounded C (mark a)) l
 
 -- ---- what a bounded mark's numbers are
 
-way-every : (P : Place → Type 0) (p : Place) (ls : List Leg) → facts.Every (λ l. P (l .place)) ls → any (λ l. same (l .place) p) ls ≡ true → P p
+pub way-every : (P : Place → Type 0) (p : Place) (ls : List Leg) → facts.Every (λ l. P (l .place)) ls → any (λ l. same (l .place) p) ls ≡ true → P p
 way-every P p [] h q = absurd (false≢true q)
 way-every P p (l ∷ ls) h q = go (same (l .place) p) refl q (way-every P p ls (h .1))
   where

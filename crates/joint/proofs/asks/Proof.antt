@@ -1,0 +1,36 @@
+-- `joint::asks` meets its contract, by the tests of its branches. Assumes nothing.
+use native.Mathlib.Omega.{arith}
+use mathlib.Core.Path.{sym, ap, _∙_}
+use borrow.Author.Tests.{eq-eqb, ne-eqb, not-true, not-false}
+use Rattle.joint.specs.Pass.{asksOf}
+use borrow.Author.Needs.{needs}
+use Rattle.joint.proofs.asks.Statement.{statement}
+use Rattle.joint.proofs.asks.Tie as tie
+use Rattle.joint.proofs.asks.Reads as reads
+use Rattle.joint.proofs.asks.Lts as lts
+use Rattle.joint.proofs.due.Reads as due-reads
+use Rattle.rows.proofs.at.Reads as at-reads
+
+returns : tie.Need-returns
+unfolding asksOf
+returns c = simp (ne-eqb _ _ (c .if1 .taken))
+
+due-requires : tie.Need-due-requires
+due-requires c κs = search needs
+
+returns-2 : tie.Need-returns-2
+unfolding asksOf
+returns-2 c = simp (eq-eqb _ _ (c .before .before .if1 .left), sym (c .before .due .ensures) ∙ not-true _ (c .if2 .taken))
+
+add-at : tie.Need-add-at
+add-at c = search needs
+
+at-requires : tie.Need-at-requires
+at-requires c κs = search needs
+
+returns-3 : tie.Need-returns-3
+unfolding asksOf
+returns-3 c = simp (eq-eqb _ _ (c .before .before .before .if1 .left), sym (c .before .before .due .ensures) ∙ not-false _ (c .before .if2 .left), c .at .ensures)
+
+pub asks-spec : {M : Type 1} → statement M
+asks-spec = tie.close (tie.spec returns due-requires returns-2 add-at at-requires returns-3)

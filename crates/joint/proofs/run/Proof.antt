@@ -1,0 +1,77 @@
+-- `joint::run` meets its contract: cleared weights, the first list, and the minutes. Assumes nothing.
+use mathlib.Core.Path.{_≡_, refl, sym, ap, _∙_}
+use Prim.Native.Nat.{ℕ, _+_, _*_, _≤_, _<_}
+use native.Mathlib.Omega.{arith}
+use lib.ListN.{length, getD, replicate}
+use Rattle.rows.specs.Written.{put-length}
+use Rattle.joint.specs.Run.{Outcome, guard, firstRows, read, minutesOf}
+use Rattle.joint.specs.Visiting.{lent-same}
+use Rattle.joint.specs.Beginning.{begin-kept, begin-outcome}
+use Rattle.joint.specs.Answer.{ran-answers}
+use borrow.Author.Needs.{needs}
+use Rattle.joint.proofs.run.Statement.{statement}
+use Rattle.joint.proofs.run.Tie as tie
+use Rattle.joint.proofs.run.Reads as reads
+use Rattle.joint.proofs.run.Lts as lts
+use Rattle.joint.proofs.begin.Reads as begin-reads
+use Rattle.joint.proofs.clear.Reads as clear-reads
+use Rattle.joint.proofs.minutes.Reads as minutes-reads
+
+clear-requires : tie.Need-clear-requires
+clear-requires c κs = search needs
+
+begin-requires : tie.Need-begin-requires
+begin-requires c κs = search needs
+
+minutes-requires : tie.Need-minutes-requires
+minutes-requires c κs =
+    let s = c .before .before .before .before .before .before .before .before .before .before .before .before .before .before .before .before .before .before .before .before .before .before .before .args in
+    let p = c .before .before .before .before .before .before .before .before .before .before .before .before .before .before .before .before .before .before .before .before .before .before .before .pre in
+    (lent-same _ _ _ _ _ (p .0) (put-length (c .before .before .before .before .before .before .before .before .before .begin .ensures)) refl refl refl refl, (p .1 .0, p .1 .1, begin-kept (s .tables .now) (c .before .before .before .before .before .before .before .before .before .begin .last .1 .0) (s .weights .now) (p .0 .rows-are) (c .before .before .before .before .before .before .before .before .before .begin .ensures)))
+
+same-length : tie.Need-same-length
+same-length c = search needs
+
+same-length-2 : tie.Need-same-length-2
+same-length-2 c = search needs
+
+same-length-3 : tie.Need-same-length-3
+same-length-3 c = search needs
+
+same-length-4 : tie.Need-same-length-4
+same-length-4 c = search needs
+
+same-length-5 : tie.Need-same-length-5
+same-length-5 c = search needs
+
+same-length-6 : tie.Need-same-length-6
+same-length-6 c = search needs
+
+same-length-7 : tie.Need-same-length-7
+same-length-7 c = search needs
+
+returns : tie.Need-returns
+returns c =
+    let s = c .before .before .before .before .before .before .before .before .before .before .before .before .before .before .before .before .before .before .before .before .before .before .before .before .before .before .before .before .before .before .before .before .before .before .before .before .before .before .args in
+    let p = c .before .before .before .before .before .before .before .before .before .before .before .before .before .before .before .before .before .before .before .before .before .before .before .before .before .before .before .before .before .before .before .before .before .before .before .before .before .before .pre in
+    let T = s .tables .now in
+    ran-answers (record {
+      outcome = c .before .before .before .before .before .before .before .before .before .before .before .before .before .before .minutes .ensures .0 ∙ ap (minutesOf T (s .stop + 1)) (begin-outcome T (c .before .before .before .before .before .before .before .before .before .before .before .before .before .before .before .before .before .before .before .before .before .before .before .before .begin .last .1 .0) (c .before .before .before .before .before .before .before .before .before .before .before .before .before .before .before .before .before .before .before .before .before .before .before .before .before .before .before .before .clear .last .0) (p .0 .rows-are) (c .before .before .before .before .before .before .before .before .before .before .before .before .before .before .before .before .before .before .before .before .before .before .before .before .begin .ensures) ∙ ap (guard (getD T 3 0) (firstRows T)) (c .before .before .before .before .before .before .before .before .before .before .before .before .before .before .before .before .before .before .before .before .before .before .before .before .before .before .before .before .clear .ensures));
+      kept = c .before .before .before .before .before .before .before .before .before .before .before .before .before .before .minutes .ensures .1;
+    })
+
+pub run-spec : {M : Type 1} → statement M
+run-spec =
+    tie.close
+    (tie.spec
+    clear-requires
+    begin-requires
+    minutes-requires
+    same-length
+    same-length-2
+    same-length-3
+    same-length-4
+    same-length-5
+    same-length-6
+    same-length-7
+    returns)

@@ -1,0 +1,16 @@
+pub mod Pass
+pub mod Outputs
+pub mod Passing
+pub mod Run
+pub mod Weighing
+pub mod Noting
+pub mod Visiting
+pub mod Beginning
+pub mod Coded
+pub mod Lookups
+pub mod Encoded
+pub mod Rowed
+pub mod Weighed
+pub mod Agreeing
+pub mod Started
+pub mod Answer

@@ -1,0 +1,10 @@
+pub mod Lists
+pub mod Model
+pub mod Fills
+pub mod Walks
+pub mod Layout
+pub mod Ways
+pub mod Decoded
+pub mod Parts
+pub mod Agree
+pub mod Small

@@ -1,0 +1,4 @@
+pub mod Rows
+pub mod Written
+pub mod Swept
+pub mod Stamps

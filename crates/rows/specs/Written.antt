@@ -1,0 +1,170 @@
+-- Laws of rows as words, and of what is written from a place on: what one call writes after another is what both write together.
+-- A write past the end changes nothing, so no law asks whether there is room. Assumes nothing.
+use mathlib.Core.Path.{_≡_, refl, ap, sym, _∙_}
+use mathlib.Core.Bool.{Bool, true, false, not, cond}
+use mathlib.Core.List.{List, [], _∷_, _++_, map, append-nil, append-assoc}
+use Prim.Native.Nat.{ℕ, zero, suc, _+_, _-_, _*_, min, _≤_, _<_}
+use native.Mathlib.Decide.{decLe}
+use native.Mathlib.Omega.{arith}
+use lib.ListN.{length, take, drop, getD, set, length-append, take-append-drop}
+use lib.Seq.{sets, slice, length-sets, sets-eq, set-out, take-suc, take-take, length-take-le, take-append-seam, drop-append-le}
+use Rattle.rules.specs.Lists.{one, each, keep}
+use Rattle.simulation.specs.Lists.{each-append, map-append}
+use Rattle.cut.specs.Lists.{sets-append}
+use Rattle.rows.specs.Rows.{Row, row, rowsOf, words, rowsIn, rowAt, Put, heldRows, enteredRows}
+
+-- ---- rows and words
+
+pub words-append : (a b : List Row) → words (a ++ b) ≡ words a ++ words b
+unfolding words
+words-append [] b = refl
+words-append (r ∷ a) b = ap (λ (l : List ℕ). r .state ∷ r .cover ∷ l) (words-append a b)
+
+pub words-length : (rs : List Row) → length (words rs) ≡ length rs * 2
+unfolding words
+words-length [] = refl
+words-length (r ∷ rs) = omega (arith, words-length rs)
+
+pub rowsOf-words : (rs : List Row) → rowsOf (words rs) ≡ rs
+unfolding rowsOf words
+rowsOf-words [] = refl
+rowsOf-words (r ∷ rs) = ap (λ (l : List Row). r ∷ l) (rowsOf-words rs)
+
+pub words-rowsOf : (j : ℕ) (l : List ℕ) → length l ≡ j * 2 → words (rowsOf l) ≡ l
+unfolding rowsOf words
+words-rowsOf j [] h = refl
+words-rowsOf j (s ∷ []) h = absurd (omega arith)
+words-rowsOf zero (s ∷ (c ∷ l)) h = absurd (omega arith)
+words-rowsOf (suc j) (s ∷ (c ∷ l)) h = ap (λ (z : List ℕ). s ∷ c ∷ z) (words-rowsOf j l (omega arith))
+
+pub rowsOf-append : (j : ℕ) (a b : List ℕ) → length a ≡ j * 2 → rowsOf (a ++ b) ≡ rowsOf a ++ rowsOf b
+unfolding rowsOf
+rowsOf-append j [] b h = refl
+rowsOf-append j (s ∷ []) b h = absurd (omega arith)
+rowsOf-append zero (s ∷ (c ∷ a)) b h = absurd (omega arith)
+rowsOf-append (suc j) (s ∷ (c ∷ a)) b h = ap (λ (l : List Row). row s c ∷ l) (rowsOf-append j a b (omega arith))
+
+pub rowsIn-none : (l : List ℕ) → rowsIn 0 l ≡ []
+unfolding rowsOf
+rowsIn-none l = refl
+
+pub rowsIn-words : (n : ℕ) (l : List ℕ) → n * 2 ≤ length l → words (rowsIn n l) ≡ take (n * 2) l
+rowsIn-words n l h = words-rowsOf n (take (n * 2) l) (length-take-le (n * 2) l h)
+
+pub rowsIn-length : (n : ℕ) (l : List ℕ) → n * 2 ≤ length l → length (rowsIn n l) ≡ n
+rowsIn-length n l h = omega (arith, words-length (rowsIn n l), ap length (rowsIn-words n l h), length-take-le (n * 2) l h)
+
+take-two : (i : ℕ) (l : List ℕ) → i * 2 + 2 ≤ length l → take ((i + 1) * 2) l ≡ take (i * 2) l ++ (getD l (i * 2) 0 ∷ getD l (i * 2 + 1) 0 ∷ [])
+take-two i l long =
+    let n : (i + 1) * 2 ≡ suc (i * 2 + 1) = omega arith in
+    let m : i * 2 + 1 ≡ suc (i * 2) = omega arith in
+    ap (λ (z : ℕ). take z l) n
+    ∙ take-suc l (i * 2 + 1) 0 (omega arith)
+    ∙ ap (λ (z : List ℕ). z ++ (getD l (i * 2 + 1) 0 ∷ [])) (ap (λ (z : ℕ). take z l) m ∙ take-suc l (i * 2) 0 (omega arith))
+    ∙ append-assoc (take (i * 2) l) (getD l (i * 2) 0 ∷ []) (getD l (i * 2 + 1) 0 ∷ [])
+
+-- one row more
+pub rowsIn-more : (i : ℕ) (l : List ℕ) → i * 2 + 2 ≤ length l → rowsIn (i + 1) l ≡ rowsIn i l ++ (rowAt l i ∷ [])
+unfolding rowsOf
+rowsIn-more i l long =
+    ap rowsOf (take-two i l long)
+    ∙ rowsOf-append i (take (i * 2) l) (getD l (i * 2) 0 ∷ getD l (i * 2 + 1) 0 ∷ []) (length-take-le (i * 2) l (omega arith))
+
+-- what is made of each row, with one row more
+pub each-more : {A : Type 0} (f : Row → List A) (i : ℕ) (l : List ℕ) → i * 2 + 2 ≤ length l → each f (rowsIn (i + 1) l) ≡ each f (rowsIn i l) ++ f (rowAt l i)
+each-more {A} f i l long =
+    ap (each f) (rowsIn-more i l long)
+    ∙ each-append f (rowsIn i l) (rowAt l i ∷ [])
+    ∙ ap (λ (z : List A). each f (rowsIn i l) ++ z) (append-nil (f (rowAt l i)))
+
+pub each-taken : {A : Type 0} (f : Row → A) (test : Row → Bool) (i : ℕ) (l : List ℕ) → i * 2 + 2 ≤ length l → test (rowAt l i) ≡ true
+    → each (λ r. one (test r) (f r)) (rowsIn (i + 1) l) ≡ each (λ r. one (test r) (f r)) (rowsIn i l) ++ (f (rowAt l i) ∷ [])
+each-taken {A} f test i l long h = each-more (λ r. one (test r) (f r)) i l long ∙ ap (λ (b : Bool). each (λ r. one (test r) (f r)) (rowsIn i l) ++ one b (f (rowAt l i))) h
+
+pub each-left : {A : Type 0} (f : Row → A) (test : Row → Bool) (i : ℕ) (l : List ℕ) → i * 2 + 2 ≤ length l → test (rowAt l i) ≡ false
+    → each (λ r. one (test r) (f r)) (rowsIn (i + 1) l) ≡ each (λ r. one (test r) (f r)) (rowsIn i l)
+each-left {A} f test i l long h =
+    each-more (λ r. one (test r) (f r)) i l long
+    ∙ ap (λ (b : Bool). each (λ r. one (test r) (f r)) (rowsIn i l) ++ one b (f (rowAt l i))) h
+    ∙ append-nil (each (λ r. one (test r) (f r)) (rowsIn i l))
+
+-- the rows before row i, and those from it on
+pub rows-split : (i n : ℕ) (l : List ℕ) → i ≤ n → n * 2 ≤ length l → rowsIn n l ≡ rowsIn i l ++ rowsOf (slice (i * 2) (n * 2) l)
+rows-split i n l h k =
+    ap rowsOf (sym (take-append-drop (i * 2) (take (n * 2) l)))
+    ∙ ap (λ (z : List ℕ). rowsOf (z ++ drop (i * 2) (take (n * 2) l))) (take-take (i * 2) (n * 2) l (omega arith))
+    ∙ rowsOf-append i (take (i * 2) l) (slice (i * 2) (n * 2) l) (length-take-le (i * 2) l (omega arith))
+
+-- ---- what is written
+
+pub sets-out : (vs l : List ℕ) (i : ℕ) → length l ≤ i → sets l i vs ≡ l
+sets-out [] l i h = refl
+sets-out (v ∷ vs) l i h = ap (λ (z : List ℕ). sets z (suc i) vs) (set-out l i v h) ∙ sets-out vs l (suc i) (omega arith)
+
+pub put-none : (l : List ℕ) (w : ℕ) → w ≤ length l → Put l w [] w l
+put-none l w h = record { place = omega arith; list = refl }
+
+pub put-one : (l : List ℕ) (w x : ℕ) → w < length l → Put l w (x ∷ []) (w + 1) (set l w x)
+put-one l w x h = record { place = omega arith; list = refl }
+
+pub put-full : (l : List ℕ) (w : ℕ) (L : List ℕ) → w ≡ length l → Put l w L w l
+put-full l w L h = record { place = omega arith; list = sym (sets-out L l w (omega arith)) }
+
+pub put-length : {l : List ℕ} {w : ℕ} {L : List ℕ} {r : ℕ} {l′ : List ℕ} → Put l w L r l′ → length l′ ≡ length l
+put-length {l} {w} {L} h = ap length (h .list) ∙ length-sets l w L
+
+pub put-fits : {l : List ℕ} {w : ℕ} {L : List ℕ} {r : ℕ} {l′ : List ℕ} → Put l w L r l′ → r ≤ length l′
+put-fits {l} {w} {L} h = omega (arith, put-length h, h .place)
+
+-- where the first did not fit, nothing of the second is written
+join-by : (l a b : List ℕ) (w r : ℕ) → r ≡ min (w + length a) (length l) → Dec (w + length a ≤ length l) → sets (sets l w a) r b ≡ sets l w (a ++ b)
+join-by l a b w r h (yes fits) = ap (λ (k : ℕ). sets (sets l w a) k b) (omega arith) ∙ sets-append a b l w
+join-by l a b w r h (no over) =
+    sets-out b (sets l w a) r (omega (arith, length-sets l w a))
+    ∙ sym (sets-out b (sets l w a) (w + length a) (omega (arith, length-sets l w a)))
+    ∙ sets-append a b l w
+
+pub put-join : {l : List ℕ} {w : ℕ} {a : List ℕ} {r : ℕ} {k : List ℕ} {b : List ℕ} {z : ℕ} {m : List ℕ} → Put l w a r k → Put k r b z m → Put l w (a ++ b) z m
+put-join {l} {w} {a} {r} {k} {b} {z} {m} f g = record {
+  place = omega (arith, put-length f, length-append a b, g .place, f .place);
+  list = g .list ∙ ap (λ (e : List ℕ). sets e r b) (f .list) ∙ join-by l a b w r (f .place) (decLe _ _);
+}
+
+-- what is written and fits stands after what stood there
+pub put-taken : {l : List ℕ} {w : ℕ} {L : List ℕ} {r : ℕ} {l′ : List ℕ} → Put l w L r l′ → w + length L ≤ length l → take r l′ ≡ take w l ++ L
+put-taken {l} {w} {L} {r} {l′} h fits =
+    let e : r ≡ length (take w l ++ L) = omega (arith, h .place, length-append (take w l) L, length-take-le w l (omega arith)) in
+    rw (h .list, sets-eq L l w fits, e) (take-append-seam (take w l ++ L) (drop (w + length L) l))
+
+-- the first words are the list L where it is shorter than the lent memory; else r is its length
+pub put-start : {l : List ℕ} {L : List ℕ} {r : ℕ} {l′ : List ℕ} → Put l 0 L r l′ → length L ≤ length l → take r l′ ≡ L
+put-start {l} {L} {r} {l′} h fits = put-taken h (omega arith)
+
+-- ---- parts of a list
+
+pub slice-more : (a i : ℕ) (l : List ℕ) → a ≤ i → i < length l → slice a (i + 1) l ≡ slice a i l ++ (getD l i 0 ∷ [])
+slice-more a i l h k =
+    let e : i + 1 ≡ suc i = omega arith in
+    ap (λ (z : ℕ). drop a (take z l)) e
+    ∙ ap (drop a) (take-suc l i 0 k)
+    ∙ drop-append-le a (take i l) (getD l i 0 ∷ []) (omega (arith, length-take-le i l (omega arith)))
+
+pub take-more : (i : ℕ) (l : List ℕ) → i < length l → take (i + 1) l ≡ take i l ++ (getD l i 0 ∷ [])
+take-more i l h = let e : i + 1 ≡ suc i = omega arith in ap (λ (z : ℕ). take z l) e ∙ take-suc l i 0 h
+
+-- ---- held and entered rows
+
+pub heldRows-more : (s i : ℕ) (l : List ℕ) → i < length l → words (heldRows s (take (i + 1) l)) ≡ words (heldRows s (take i l)) ++ (s ∷ getD l i 0 ∷ [])
+unfolding heldRows words
+heldRows-more s i l h =
+    ap (λ (z : List ℕ). words (map (λ c. row s c) z)) (take-more i l h)
+    ∙ ap words (map-append (λ c. row s c) (take i l) (getD l i 0 ∷ []))
+    ∙ words-append (map (λ c. row s c) (take i l)) (row s (getD l i 0) ∷ [])
+
+pub enteredRows-more : (s b : ℕ) (two : Bool) (i : ℕ) (l : List ℕ) → i < length l
+    → words (enteredRows s b two (take (i + 1) l)) ≡ words (enteredRows s b two (take i l)) ++ words (enteredRows s b two (getD l i 0 ∷ []))
+unfolding enteredRows
+enteredRows-more s b two i l h =
+    ap (λ (z : List ℕ). words (each (λ c. row s c ∷ one two (row b c)) z)) (take-more i l h)
+    ∙ ap words (each-append (λ c. row s c ∷ one two (row b c)) (take i l) (getD l i 0 ∷ []))
+    ∙ words-append (each (λ c. row s c ∷ one two (row b c)) (take i l)) (each (λ c. row s c ∷ one two (row b c)) (getD l i 0 ∷ []))
