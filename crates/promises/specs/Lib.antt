@@ -1,3 +1,4 @@
 pub mod Runs
 pub mod Memory
 pub mod Promises
+pub mod Engine
