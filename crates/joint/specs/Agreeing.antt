@@ -1,33 +1,32 @@
 -- The run on rows agrees with the run by passes, step by step: while nothing is met it holds the rows of the list and the weights of the arrivals, and
 -- else it is refused. A pass, an element, a minute and the minutes keep the agreement. Assumes nothing.
 use mathlib.Core.Path.{_≡_, refl, ap, ap₂, sym, _∙_, subst, subst₂}
-use mathlib.Core.Bool.{Bool, true, false, not, cond}
-use mathlib.Core.List.{List, [], _∷_, _++_, map}
-use Prim.Native.Nat.{ℕ, zero, suc, _+_, _-_, _*_, _%_, _^_, _≤_, _<_}
+use mathlib.Core.Bool.{Bool, true, false, cond}
+use mathlib.Core.List.{List, [], _∷_, map}
+use Prim.Native.Nat.{ℕ, zero, suc, _+_, _*_, _%_, _^_, _≤_, _<_}
 use native.Mathlib.Omega.{arith}
 use lib.ListN.{length, take, getD, set, length-map}
 use lib.Seq.{take-suc, take-length}
 use lib.Dec.{ltb}
-use borrow.Author.Tests.{ltb-true, ltb-false, lt-ltb, le-ltb}
-use Rattle.rules.specs.Lists.{fold, keep, span, below}
+use borrow.Author.Tests.{ltb-true, ltb-false}
+use Rattle.rules.specs.Lists.{fold, below}
 use Rattle.rules.specs.Files.{Head, Case}
-use Rattle.rules.specs.Turns.{Place, lastStation, same, ended, State, state}
+use Rattle.rules.specs.Turns.{Place, lastStation, same, State}
 use Rattle.rules.specs.Joint.{Entry}
 use Rattle.sound.specs.Facts.{Sound}
-use Rattle.simulation.specs.Lists.{Every, every-keep}
+use Rattle.simulation.specs.Lists.{Every}
 use Rattle.simulation.specs.Serving.{Proper}
 use Rattle.codes.specs.Codes.{placeOf}
 use Rattle.codes.specs.Tables.{order, tables}
-use Rattle.passes.specs.Passes.{asksFor, passList, pass, cleared, elementCodes, elementPasses, minutePasses, minutesPasses}
+use Rattle.passes.specs.Passes.{passList, pass, cleared, elementPasses, minutePasses, minutesPasses}
 use Rattle.passes.specs.Lists.{fold-append}
 use Rattle.passes.specs.Order.{order-known, order-length}
 use Rattle.passes.specs.Joint.{Lawful, pass-lawful, pass-nobody, pass-met, pass-refused, cleared-lawful}
 use Rattle.passes.specs.Bounds.{Bounded, AllBounded, pass-bounded, cleared-bounded}
 use Rattle.passes.specs.Arrivals.{arrivedWeight}
-use Rattle.rows.specs.Rows.{Row, sweptOf}
+use Rattle.rows.specs.Rows.{Row}
 use Rattle.joint.specs.declared.Job.{Job}
-use Rattle.joint.specs.Pass.{asksOf, coversOf, passedOf, arrivedOf}
-use Rattle.joint.specs.Run.{Outcome, upTo, guard, askedIn, jobFor, afterPass, passOf, elementOf, elementsOf, clearedOf, minuteOf, minutesOf}
+use Rattle.joint.specs.Run.{Outcome, guard, askedIn, jobFor, afterPass, passOf, elementOf, elementsOf, clearedOf, minuteOf, minutesOf}
 use Rattle.joint.specs.Run.Outcome.{refused, stands}
 use Rattle.joint.specs.Visiting.{guard-in, guard-out}
 use Rattle.joint.specs.Beginning.{below-more}

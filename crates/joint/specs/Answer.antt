@@ -1,9 +1,9 @@
 -- What the run in code answers, in the words of the definitions: the list of the joint run after minute `stop`, as rows in order, and the weights arrived;
 -- or the refusal that the joint run met. The run on rows agrees with the run by passes, and this is the joint run. Assumes nothing.
-use mathlib.Core.Path.{_≡_, refl, ap, sym, _∙_, subst}
-use mathlib.Core.Bool.{Bool, true, false}
-use mathlib.Core.List.{List, [], _∷_, map}
-use Prim.Native.Nat.{ℕ, suc, _+_, _-_, _*_, _/_, _%_, _^_, _≤_, _<_}
+use mathlib.Core.Path.{_≡_, ap, sym, _∙_}
+use mathlib.Core.Bool.{Bool}
+use mathlib.Core.List.{List, map}
+use Prim.Native.Nat.{ℕ, suc, _+_, _*_, _/_, _%_, _^_, _≤_, _<_}
 use native.Mathlib.Nat.{mod-eq-of-lt}
 use native.Mathlib.Decide.{decLt}
 use native.Mathlib.Omega.{arith}
@@ -11,14 +11,14 @@ use lib.ListN.{length, take, getD, replicate, length-map}
 use lib.Seq.{length-take-le}
 use Rattle.rules.specs.Files.{Head, Case}
 use Rattle.rules.specs.Turns.{State}
-use Rattle.rules.specs.Joint.{Entry, joint, weightAt, total}
+use Rattle.rules.specs.Joint.{Entry, joint, weightAt}
 use Rattle.sound.specs.Facts.{Sound}
 use Rattle.simulation.specs.View as simulated
 use Rattle.simulation.specs.Simulation.{simulation, single-kept}
 use Rattle.weights.specs.Arrivals.{Seen, weightAt-most}
 use Rattle.weights.specs.Room.{total-most}
 use Rattle.codes.specs.Tables.{tables}
-use Rattle.passes.specs.Passes.{pass, minutesPasses, jointPasses}
+use Rattle.passes.specs.Passes.{jointPasses}
 use Rattle.passes.specs.Joint.{joint-passes}
 use Rattle.passes.specs.Bounds.{ByteDelays}
 use Rattle.rows.specs.Rows.{Row, rowsOf, words}

@@ -1,20 +1,19 @@
 -- Laws of the first list as code writes it: byte by byte, delay by delay, train by train. Each turn of a loop adds one. Assumes nothing.
-use mathlib.Core.Path.{_≡_, refl, ap, ap₂, sym, _∙_}
-use mathlib.Core.Bool.{Bool, true, false, cond}
+use mathlib.Core.Path.{_≡_, refl, ap, sym, _∙_}
+use mathlib.Core.Bool.{Bool}
 use mathlib.Core.List.{List, [], _∷_, _++_, map, append-nil}
-use Prim.Native.Nat.{ℕ, zero, suc, _+_, _-_, _*_, _/_, _%_, _^_, min, _≤_, _<_}
+use Prim.Native.Nat.{ℕ, zero, suc, _+_, _*_, _%_, _^_, _≤_, _<_}
 use native.Mathlib.Nat.{pow-succ', pow-le-pow-right, mod-eq-of-lt, one-mul}
 use native.Mathlib.Decide.{decLt}
 use native.Mathlib.Omega.{arith}
-use lib.ListN.{length, take, drop, getD, set, replicate}
-use lib.Seq.{take-suc-set, set-out}
-use lib.Dec.{ltb, eqb}
+use lib.ListN.{length, take, getD, set, replicate}
+use lib.Seq.{take-suc-set}
 use Rattle.rules.specs.Lists.{each, span, below}
 use Rattle.simulation.specs.Lists.{each-append, map-append}
-use Rattle.rows.specs.Rows.{Row, row, rowsOf, words, Put}
+use Rattle.rows.specs.Rows.{Row, rowsOf, words, Put}
 use Rattle.rows.specs.Written.{words-append, words-length, rowsOf-words, put-start, put-length, put-fits}
 use Rattle.joint.specs.Run.{Outcome, guard, firstByte, firstBytes, firstRow, firstRows, read, Kept}
-use Rattle.joint.specs.Run.Outcome.{refused, stands}
+use Rattle.joint.specs.Run.Outcome.{stands}
 use Rattle.joint.specs.Visiting.{read-in, read-out, guard-in, guard-out}
 
 -- ---- bytes

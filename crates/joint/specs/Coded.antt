@@ -2,12 +2,11 @@
 -- Each field of a state stands in bits of its own. Assumes nothing.
 use mathlib.Core.Path.{_≡_, refl, ap, ap₂, sym, _∙_}
 use mathlib.Core.Bool.{Bool, true, false, not, _&&_, cond, false≢true}
-use mathlib.Core.List.{List, [], _∷_}
-use Prim.Native.Nat.{ℕ, zero, suc, _+_, _-_, _*_, _/_, _%_, _≤_, _<_}
+use mathlib.Core.List.{List, _∷_}
+use Prim.Native.Nat.{ℕ, _+_, _-_, _*_, _/_, _%_, _≤_, _<_}
 use native.Mathlib.Omega.{arith}
-use lib.ListN.{length, getD}
 use lib.Dec.{ltb, leb, eqb}
-use borrow.Author.Tests.{eq-eqb, ne-eqb, lt-ltb, le-ltb, lt-leb, le-leb, eqb-true, eqb-false, ltb-true, ltb-false}
+use borrow.Author.Tests.{lt-ltb, le-ltb, lt-leb, le-leb, eqb-true, eqb-false, ltb-true, ltb-false}
 use Rattle.rules.specs.Lists.{tick}
 use Rattle.rules.specs.Files.{Case}
 use Rattle.rules.specs.Turns.{Place, same, Mark, Leg, leg, way, ended}
@@ -19,7 +18,7 @@ use Rattle.sound.specs.Ways.{same-true}
 use Rattle.simulation.specs.Places.{same-self}
 use Rattle.sound.specs.Trains.{Known, way-known}
 use Rattle.codes.specs.Codes.{codeOf, placeOf, stateOf}
-use Rattle.passes.specs.Bounds.{Bounded, bounded-train, bounded-minute, way-every}
+use Rattle.passes.specs.Bounds.{Bounded, bounded-minute, way-every}
 use Rattle.rows.specs.Rows.{endedOf}
 use Rattle.joint.specs.Pass.{dueOf}
 

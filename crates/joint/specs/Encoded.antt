@@ -1,20 +1,20 @@
 -- Entries as rows, and the tests on them: what code asks of a state is what the definitions ask of its mark, and a proper cover is packable.
 -- The words that the runs look up are those of the case. Assumes nothing.
 use mathlib.Core.Path.{_≡_, refl, ap, ap₂, sym, _∙_, subst}
-use mathlib.Core.Bool.{Bool, true, false, not, _&&_, cond, false≢true}
+use mathlib.Core.Bool.{Bool, true, false, not, _&&_, cond}
 use mathlib.Core.List.{List, [], _∷_, _++_, map}
-use Prim.Native.Nat.{ℕ, zero, suc, _+_, _-_, _*_, _/_, _%_, _≤_, _<_}
+use Prim.Native.Nat.{ℕ, zero, suc, _+_, _-_, _*_, _≤_, _<_}
 use native.Mathlib.Omega.{arith}
-use lib.ListN.{length, getD, length-map}
+use lib.ListN.{length, getD}
 use lib.Dec.{ltb, leb, eqb}
-use borrow.Author.Tests.{eq-eqb, ne-eqb, lt-ltb, le-ltb, ltb-true, ltb-false}
-use Rattle.rules.specs.Lists.{one, each, keep, span, below, has}
+use borrow.Author.Tests.{eq-eqb, ne-eqb, ltb-true, ltb-false}
+use Rattle.rules.specs.Lists.{one, keep, span, below, has}
 use Rattle.rules.specs.Files.{Case, Pair}
 use Rattle.rules.specs.Turns.{Place, same, Mark, Leg, ahead, headIs, asks, ended, capacity}
 use Rattle.rules.specs.Turns.Place.{outside, station, track, gone}
-use Rattle.rules.specs.Joint.{Cover, whole, Entry, entry, Piece, piece, carry, meets}
+use Rattle.rules.specs.Joint.{Cover, whole, Entry, Piece, piece, carry, meets}
 use Rattle.sound.specs.Facts.{Sound}
-use Rattle.simulation.specs.Lists.{each-map, each-every, Every, every-more, every-each, every-one}
+use Rattle.simulation.specs.Lists.{Every, every-each, every-one}
 use Rattle.simulation.specs.Parts.{Part, Parts}
 use Rattle.simulation.specs.Places.{same-self}
 use Rattle.simulation.specs.Serving.{Proper}
@@ -28,9 +28,9 @@ use Rattle.cut.specs.Packed as packs
 use Rattle.cut.specs.Packed.{packed, packedPiece, Delays, Sets, Packable}
 use Rattle.cut.specs.Packed.Delays.{none, takes, skips}
 use Rattle.cut.specs.Bridge.{carried-carry}
-use Rattle.rows.specs.Rows.{Row, row, endedOf, meetsOf, metOf, sweptOf}
+use Rattle.rows.specs.Rows.{Row, row, meetsOf, metOf, sweptOf}
 use Rattle.joint.specs.declared.Job.{Job}
-use Rattle.joint.specs.Pass.{dueOf, nextOf, asksOf, capOf, metFor}
+use Rattle.joint.specs.Pass.{nextOf, asksOf, capOf, metFor}
 use Rattle.joint.specs.Coded.{Coded, known-coded, bounded-coded, coded-small, place-code, code-place, code-test, Fit, bounded-fit, state-train, state-place, state-way, ended-state, due-state}
 use Rattle.joint.specs.Lookups.{table-next, table-capacity}
 

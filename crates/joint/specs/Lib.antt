@@ -14,3 +14,4 @@ pub mod Weighed
 pub mod Agreeing
 pub mod Started
 pub mod Answer
+pub mod Smallness

@@ -1,8 +1,8 @@
 -- What the words of `tables C` are, place by place: each part of the list is found after the parts before it. Assumes nothing.
-use mathlib.Core.Path.{_≡_, refl, ap, ap₂, sym, _∙_}
-use mathlib.Core.Bool.{Bool, true, false, cond}
-use mathlib.Core.List.{List, [], _∷_, _++_, map}
-use Prim.Native.Nat.{ℕ, zero, suc, _+_, _-_, _*_, _≤_, _<_}
+use mathlib.Core.Path.{_≡_, refl, ap, sym, _∙_}
+use mathlib.Core.Bool.{Bool, false, cond}
+use mathlib.Core.List.{List, [], _++_, map}
+use Prim.Native.Nat.{ℕ, zero, suc, _+_, _*_, _<_}
 use native.Mathlib.Nat.{suc-mul}
 use native.Mathlib.Omega.{arith}
 use lib.ListN.{length, getD, length-append, length-map, List·getD-append}
@@ -166,14 +166,23 @@ module _ (C : Case) where
       below-at (λ j. cond (ltb j (length (C .trains))) (f j) 0) 8 k l
       ∙ ap (λ (b : Bool). cond b (f k) 0) (lt-ltb k (length (C .trains)) h)
 
-  pub table-order : (k : ℕ) → k < length (C .trains) → k < 8 → getD (tables C) (8 + k) 0 ≡ getD (order C) k 0
-  table-order k h l =
+  -- a train that is not there
+  absent : (f : ℕ → ℕ) (k : ℕ) → ltb k (length (C .trains)) ≡ false → k < 8 → getD (perTrain C f) k 0 ≡ 0
+  absent f k h l = below-at (λ j. cond (ltb j (length (C .trains))) (f j) 0) 8 k l ∙ ap (λ (b : Bool). cond b (f k) 0) h
+
+  in-order : (k : ℕ) → k < 8 → getD (tables C) (8 + k) 0 ≡ getD O k 0
+  in-order k l =
       trains-at k (omega arith)
       ∙ at-left (O ++ L ++ P ++ F) D 32 k refl (omega arith)
       ∙ at-left (O ++ L ++ P) F 24 k refl (omega arith)
       ∙ at-left (O ++ L) P 16 k refl (omega arith)
       ∙ at-left O L 8 k refl l
-      ∙ present (λ k. getD (order C) k 0) k h l
+
+  pub table-order : (k : ℕ) → k < length (C .trains) → k < 8 → getD (tables C) (8 + k) 0 ≡ getD (order C) k 0
+  table-order k h l = in-order k l ∙ present (λ k. getD (order C) k 0) k h l
+
+  pub table-absent-order : (k : ℕ) → ltb k (length (C .trains)) ≡ false → k < 8 → getD (tables C) (8 + k) 0 ≡ 0
+  table-absent-order k h l = in-order k l ∙ absent (λ k. getD (order C) k 0) k h l
 
   pub table-last : (k : ℕ) → k < length (C .trains) → k < 8 → getD (tables C) (16 + k) 0 ≡ codeOf (lastStation C k)
   table-last k h l =
@@ -193,12 +202,17 @@ module _ (C : Case) where
       ∙ at-right (O ++ L ++ P) F 24 k refl
       ∙ present (λ k. firstArrival (trainAt C k .stops)) k h l
 
-  pub table-delays : (k : ℕ) → k < length (C .trains) → k < 8 → getD (tables C) (40 + k) 0 ≡ length (getD (C .tables) k [])
-  table-delays k h l =
+  in-delays : (k : ℕ) → k < 8 → getD (tables C) (40 + k) 0 ≡ getD D k 0
+  in-delays k l =
       ap (λ (i : ℕ). getD (tables C) i 0) (let e : 40 + k ≡ 8 + (32 + k) = omega arith in e)
       ∙ trains-at (32 + k) (omega arith)
       ∙ at-right (O ++ L ++ P ++ F) D 32 k refl
-      ∙ present (λ k. length (getD (C .tables) k [])) k h l
+
+  pub table-delays : (k : ℕ) → k < length (C .trains) → k < 8 → getD (tables C) (40 + k) 0 ≡ length (getD (C .tables) k [])
+  table-delays k h l = in-delays k l ∙ present (λ k. length (getD (C .tables) k [])) k h l
+
+  pub table-absent-delays : (k : ℕ) → ltb k (length (C .trains)) ≡ false → k < 8 → getD (tables C) (40 + k) 0 ≡ 0
+  table-absent-delays k h l = in-delays k l ∙ absent (λ k. length (getD (C .tables) k [])) k h l
 
   pub table-trains : getD (tables C) 0 0 ≡ length (C .trains)
   unfolding tables

@@ -1,21 +1,21 @@
 -- Laws of the stamps: a state that is due has both its stamps once they are set, and a pair or an element without this minute's stamp is asked for by
 -- nobody. Stamps of one minute only add up. Assumes nothing.
-use mathlib.Core.Path.{_≡_, refl, ap, sym, _∙_}
-use mathlib.Core.Bool.{Bool, true, false, not, cond, false≢true}
-use mathlib.Core.List.{List, [], _∷_, _++_}
-use Prim.Native.Nat.{ℕ, zero, suc, _+_, _*_, _/_, _%_, _≤_, _<_}
+use mathlib.Core.Path.{_≡_, refl, ap}
+use mathlib.Core.Bool.{Bool, true, false, cond, false≢true}
+use mathlib.Core.List.{List, [], _∷_}
+use Prim.Native.Nat.{ℕ, _+_, _*_, _/_, _%_, _≤_}
 use native.Mathlib.Omega.{arith}
 use lib.ListN.{length, getD, set}
-use lib.Dec.{ltb, eqb}
+use lib.Dec.{eqb}
 use borrow.Author.Tests.{eqb-true, eq-eqb}
 use Rattle.rules.specs.Lists.{one, each}
 use Rattle.simulation.specs.Lists.{Every, every-append, every-more, every-each, every-map, every-all}
 use Rattle.cut.specs.Cut.{carried, heldOf}
-use Rattle.rows.specs.Rows.{Row, row, rowsOf, rowsIn, rowAt, idleOf, heldRows, enteredRows}
+use Rattle.rows.specs.Rows.{Row, row, rowsIn, rowAt, idleOf, heldRows, enteredRows}
 use Rattle.rows.specs.Written.{rowsIn-more}
 use Rattle.rows.specs.Stamps.{Has, stamp-own, stamp-keeps, idle-none}
 use Rattle.joint.specs.declared.Job.{Job}
-use Rattle.joint.specs.Pass.{dueOf, nextOf, asksOf, askingOf, metFor, holdRow, enterRow, coversOf, passedOf, pairSpot, elementSpot, notedOf, jobOf, Small, Within}
+use Rattle.joint.specs.Pass.{dueOf, nextOf, asksOf, askingOf, metFor, holdRow, coversOf, passedOf, pairSpot, elementSpot, notedOf, jobOf, Small, Within}
 use Rattle.joint.specs.Run.{Stamped, AllStamped}
 
 -- ---- setting stamps

@@ -1,17 +1,17 @@
 -- Laws of the two outputs of a pass, the rows and the covers that enter: what one row writes after another is what both write together.
 -- Each piece makes a row in one of the two, so pieces that leave no place leave none in the rows. Assumes nothing.
-use mathlib.Core.Path.{_≡_, refl, ap, sym, _∙_}
-use mathlib.Core.Bool.{Bool, true, false, cond}
-use mathlib.Core.List.{List, [], _∷_, _++_, map}
-use Prim.Native.Nat.{ℕ, zero, suc, _+_, _-_, _*_, _/_, min, _≤_, _<_}
+use mathlib.Core.Path.{_≡_, refl, ap, _∙_}
+use mathlib.Core.Bool.{Bool}
+use mathlib.Core.List.{List, [], _++_, map}
+use Prim.Native.Nat.{ℕ, _+_, _*_, _≤_, _<_}
 use native.Mathlib.Decide.{decLt}
 use native.Mathlib.Omega.{arith}
-use lib.ListN.{length, take, drop, length-append, length-map}
+use lib.ListN.{length, take, length-append, length-map}
 use lib.Seq.{sets, length-sets}
 use Rattle.cut.specs.declared.Pieces.{Pieces}
 use Rattle.cut.specs.Cut.{Part, heldOf, enteringOf, Room, fitting, Wrote}
 use Rattle.cut.specs.Lists.{sets-append}
-use Rattle.cut.specs.Written.{length-apart, wrote-held-length, wrote-entering-length, wrote-count, fitting-count, fitting-all}
+use Rattle.cut.specs.Written.{length-apart, wrote-entering-length, fitting-count, fitting-all}
 use Rattle.rows.specs.Rows.{Row, row, words, Put, heldRows}
 use Rattle.rows.specs.Written.{words-length, put-none, put-join, put-length, put-fits, put-start}
 use Rattle.joint.specs.Pass.{Came, Two}

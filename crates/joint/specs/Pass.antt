@@ -1,6 +1,6 @@
 -- One pass of a train for an element, on rows of two words and the words T that the runs look up. Assumes nothing: these are definitions.
 use mathlib.Core.Path.{_≡_}
-use mathlib.Core.Bool.{Bool, true, false, not, cond}
+use mathlib.Core.Bool.{Bool, false, not, cond}
 use mathlib.Core.List.{List, [], _∷_, _++_}
 use Prim.Native.Nat.{ℕ, zero, suc, _+_, _*_, _/_, _%_, _^_, min, _≤_, _<_}
 use lib.ListN.{length, take, getD, set}
@@ -8,7 +8,7 @@ use lib.Seq.{sets}
 use lib.Dec.{ltb, eqb}
 use Rattle.rules.specs.Lists.{each, sum}
 use Rattle.cut.specs.Cut.{Part, carried, heldOf, enteringOf}
-use Rattle.rows.specs.Rows.{Row, row, words, Put, metOf, heldRows, enteredRows}
+use Rattle.rows.specs.Rows.{Row, words, Put, metOf, heldRows, enteredRows}
 use Rattle.joint.specs.declared.Job.{Job}
 use Rattle.joint.specs.declared.Ends.{Ends}
 

@@ -1,20 +1,20 @@
 -- The pass in code is the pass of the definitions on rows: what stands before the first asker stays, what comes after it is walked, and what entered is
 -- put at the end. Rows that do not ask are held as they are and bring nothing in. Assumes nothing.
 use mathlib.Core.Path.{_≡_, refl, ap, ap₂, sym, _∙_}
-use mathlib.Core.Bool.{Bool, true, false, not, cond}
-use mathlib.Core.List.{List, [], _∷_, _++_, map, append-nil, append-assoc}
-use Prim.Native.Nat.{ℕ, zero, suc, _+_, _-_, _*_, _/_, min, _≤_, _<_}
+use mathlib.Core.Bool.{Bool, true, false, cond}
+use mathlib.Core.List.{List, [], _∷_, _++_, append-assoc}
+use Prim.Native.Nat.{ℕ, suc, _+_, _-_, _*_, _≤_, _<_}
 use native.Mathlib.Omega.{arith}
 use lib.ListN.{length, take, length-append}
 use lib.Seq.{slice, length-slice}
-use lib.Dec.{ltb, eqb}
+use lib.Dec.{ltb}
 use Rattle.rules.specs.Lists.{one, each}
 use Rattle.simulation.specs.Lists.{each-append, Every}
-use Rattle.rows.specs.Rows.{Row, row, words, rowsOf, rowsIn, rowAt, Put, meetsOf, metOf, heldRows, enteredRows}
+use Rattle.rows.specs.Rows.{Row, row, words, rowsOf, rowsIn, Put, meetsOf, metOf, enteredRows}
 use Rattle.rows.specs.Written.{words-append, words-length, rowsIn-words, rowsIn-length, rows-split, put-join, put-length, put-start, put-taken}
 use Rattle.joint.specs.declared.Job.{Job}
 use Rattle.joint.specs.declared.Ends.{Ends}
-use Rattle.joint.specs.Pass.{asksOf, askingOf, metFor, holdRow, enterRow, coversOf, passedOf, Two, Passed, Lent}
+use Rattle.joint.specs.Pass.{askingOf, metFor, holdRow, enterRow, coversOf, passedOf, Two, Passed, Lent}
 use Rattle.joint.specs.Pass.Two.{fits, over}
 use Rattle.joint.specs.Outputs.{came-taken, two-bounds}
 

@@ -1,18 +1,17 @@
 -- A pass on rows is the pass of the definitions: row by row what is held stays as rows, and what enters makes the same rows at the end.
 -- All askers stand at one place, so the first one tells the block. Assumes nothing.
 use mathlib.Core.Path.{_≡_, refl, ap, ap₂, sym, _∙_, subst}
-use mathlib.Core.Bool.{Bool, true, false, not, _&&_, _||_, cond, false≢true}
+use mathlib.Core.Bool.{Bool, true, false, not, _||_, cond, false≢true}
 use mathlib.Core.List.{List, [], _∷_, _++_, map}
-use Prim.Native.Nat.{ℕ, zero, suc, _+_, _-_, _*_, _/_, _%_, _≤_, _<_}
+use Prim.Native.Nat.{ℕ, _+_, _/_, _%_, _≤_, _<_}
 use native.Mathlib.Omega.{arith}
-use lib.ListN.{length, getD}
-use lib.Dec.{ltb, eqb}
+use lib.Dec.{eqb}
 use borrow.Author.Tests.{ne-eqb}
-use Rattle.rules.specs.Lists.{one, each, keep, any, tick}
+use Rattle.rules.specs.Lists.{one, each, keep}
 use Rattle.rules.specs.Files.{Head, Case}
-use Rattle.rules.specs.Turns.{Place, same, Mark, stands, block, way, plannedOn, dueAgain, Served, served}
+use Rattle.rules.specs.Turns.{Place, same, Mark, stands, block, dueAgain, Served, served}
 use Rattle.rules.specs.Turns.Place.{outside, station, track, gone}
-use Rattle.rules.specs.Joint.{Cover, whole, Entry, entry, Piece, meets}
+use Rattle.rules.specs.Joint.{Cover, Entry, entry, Piece, meets}
 use Rattle.sound.specs.Facts.{Sound}
 use Rattle.simulation.specs.Lists.{each-append, map-append, Every}
 use Rattle.simulation.specs.Parts.{Parts}
@@ -29,7 +28,7 @@ use Rattle.rows.specs.Rows.{Row, row, heldRows, enteredRows}
 use Rattle.joint.specs.declared.Job.{Job}
 use Rattle.joint.specs.Pass.{asksOf, askerOf, jobOf, capOf, metFor, askingOf, holdRow, enterRow, coversOf, passedOf}
 use Rattle.joint.specs.Run.{askedIn, jobFor}
-use Rattle.joint.specs.Coded.{Coded, coded-small, place-code, code-place, bounded-coded, bounded-fit, state-place}
+use Rattle.joint.specs.Coded.{Coded, code-place, bounded-coded, bounded-fit, state-place}
 use Rattle.joint.specs.Lookups.{table-stay, table-safety}
 use Rattle.joint.specs.Encoded.{rowOf, Good, asks-row, pieces-row}
 

@@ -1,16 +1,16 @@
 -- The run on rows of two words and the words T that the runs look up: passes, elements, minutes. Assumes nothing: these are definitions.
 use mathlib.Core.Path.{_≡_}
-use mathlib.Core.Bool.{Bool, true, false, cond}
-use mathlib.Core.List.{List, [], _∷_, _++_, map}
+use mathlib.Core.Bool.{Bool, true, cond}
+use mathlib.Core.List.{List, map}
 use Prim.Native.Nat.{ℕ, zero, suc, _+_, _-_, _*_, _/_, _^_, _≤_, _<_}
 use lib.ListN.{length, take, getD, replicate}
 use lib.Dec.{ltb, eqb}
 use Rattle.rules.specs.Lists.{each, any, below}
 use Rattle.simulation.specs.Lists.{Every}
-use Rattle.rows.specs.Rows.{Row, row, rowsOf, rowsIn, sweptOf}
+use Rattle.rows.specs.Rows.{Row, row, rowsOf, sweptOf}
 use Rattle.rows.specs.Stamps.{Has}
 use Rattle.joint.specs.declared.Job.{Job}
-use Rattle.joint.specs.Pass.{dueOf, nextOf, asksOf, askerOf, jobOf, coversOf, passedOf, arrivedOf, pairSpot, elementSpot}
+use Rattle.joint.specs.Pass.{dueOf, asksOf, askerOf, jobOf, coversOf, passedOf, arrivedOf, pairSpot, elementSpot}
 
 -- the rows and the weights of a run, or refusal 12
 pub data Outcome : Type 0 where

@@ -3,32 +3,30 @@
 use mathlib.Core.Path.{_≡_, refl, ap, ap₂, sym, _∙_, subst}
 use mathlib.Core.Bool.{Bool, true, false, cond}
 use mathlib.Core.List.{List, [], _∷_, _++_, map}
-use Prim.Native.Nat.{ℕ, zero, suc, _+_, _-_, _*_, _%_, _^_, _≤_, _<_}
+use Prim.Native.Nat.{ℕ, zero, suc, _+_, _-_, _*_, _^_, _≤_, _<_}
 use native.Mathlib.Nat.{add-zero}
 use native.Mathlib.Omega.{arith}
 use lib.ListN.{length, getD, set, replicate, length-replicate, getD-replicate, length-map}
-use lib.Dec.{ltb, eqb}
+use lib.Dec.{ltb}
 use borrow.Author.Tests.{eq-eqb, ne-eqb, lt-ltb, le-ltb, ltb-true, ltb-false}
-use Rattle.rules.specs.Lists.{each, span, below}
+use Rattle.rules.specs.Lists.{each, below}
 use Rattle.rules.specs.Files.{Head, Case, Pair}
-use Rattle.rules.specs.Turns.{Mark, trainAt, State, state}
-use Rattle.rules.specs.Turns.Place.{outside}
-use Rattle.rules.specs.Single.{pairAt, firstArrival, waits}
+use Rattle.rules.specs.Turns.{Mark, State, state}
+use Rattle.rules.specs.Single.{waits}
 use Rattle.rules.specs.Joint.{Cover, whole, Entry, entry, firstList, checkList, weightAt}
 use Rattle.rules.specs.Calls.{setImage}
 use Rattle.sound.specs.Facts.{Sound}
-use Rattle.simulation.specs.Lists.{Every, every-span, every-more, every-below, map-append}
+use Rattle.simulation.specs.Lists.{Every, every-below, map-append}
 use Rattle.simulation.specs.Start.{first-proper}
 use Rattle.codes.specs.Codes.{stateOf}
 use Rattle.codes.specs.Tables.{tables}
 use Rattle.passes.specs.Joint.{Lawful, first-lawful}
 use Rattle.passes.specs.Room.{check-room}
 use Rattle.passes.specs.Bounds.{ByteDelays, firstList-bounded}
-use Rattle.cut.specs.Packed.{packedIn, packed}
+use Rattle.cut.specs.Packed.{packedIn}
 use Rattle.cut.specs.Sets.{image-delays, whole-delays, single-delays}
 use Rattle.rows.specs.Rows.{Row, row}
 use Rattle.joint.specs.Run.{Outcome, guard, firstByte, firstBytes, firstRow, firstRows}
-use Rattle.joint.specs.Run.Outcome.{refused, stands}
 use Rattle.joint.specs.Visiting.{guard-in, guard-out}
 use Rattle.joint.specs.Lookups.{table-trains, table-delays, table-first, table-delay, table-room}
 use Rattle.joint.specs.Encoded.{rowOf}

@@ -3,20 +3,19 @@
 use mathlib.Core.Path.{_≡_, refl, ap, ap₂, sym, _∙_}
 use mathlib.Core.Bool.{Bool, true, false, cond, _||_, or-true}
 use mathlib.Core.List.{List, [], _∷_, _++_, append-assoc}
-use Prim.Native.Nat.{ℕ, zero, suc, _+_, _-_, _*_, _/_, min, _≤_, _<_}
-use native.Mathlib.Decide.{decLe, decLt}
+use Prim.Native.Nat.{ℕ, zero, suc, _+_, _*_, _/_, _≤_, _<_}
+use native.Mathlib.Decide.{decLt}
 use native.Mathlib.Omega.{arith}
 use lib.ListN.{length, take, getD}
 use lib.Seq.{slice}
-use lib.Dec.{ltb, eqb}
 use borrow.Author.Tests.{lt-ltb, le-ltb}
 use Rattle.rules.specs.Lists.{any}
 use Rattle.simulation.specs.Lists.{Every, every-more, any-append, any-none}
-use Rattle.rows.specs.Rows.{Row, row, rowsOf, rowsIn, rowAt, words, idleOf, sweptOf}
-use Rattle.rows.specs.Written.{rowsOf-words, rowsIn-more, rowsIn-length, rows-split}
+use Rattle.rows.specs.Rows.{Row, rowsOf, rowsIn, rowAt, idleOf, sweptOf}
+use Rattle.rows.specs.Written.{rowsOf-words, rowsIn-more, rows-split}
 use Rattle.joint.specs.declared.Job.{Job}
 use Rattle.joint.specs.declared.Ends.{Ends}
-use Rattle.joint.specs.Pass.{asksOf, askerOf, jobOf, coversOf, passedOf, arrivedOf, notedOf, Small, Within, Passed, Lent}
+use Rattle.joint.specs.Pass.{asksOf, askerOf, coversOf, passedOf, arrivedOf, notedOf, Small, Within, Passed, Lent}
 use Rattle.joint.specs.Run.{Outcome, upTo, guard, askedIn, jobFor, afterPass, passOf, elementOf, elementsOf, clearedOf, minuteOf, minutesOf, read, Kept, Stamped, AllStamped, Stamps}
 use Rattle.joint.specs.Run.Outcome.{refused, stands}
 use Rattle.joint.specs.Noting.{pair-quiet, element-quiet, passed-stamped}

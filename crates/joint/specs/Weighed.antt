@@ -1,9 +1,9 @@
 -- The weights that code adds are those of the definitions: a packed cover weighs what the cover weighs, and a pass adds at its train and minute alone.
 -- The bits of a set are its delays, the bytes of a cover its sets. Assumes nothing.
-use mathlib.Core.Path.{_≡_, refl, ap, ap₂, sym, _∙_, subst}
+use mathlib.Core.Path.{_≡_, refl, ap, ap₂, sym, _∙_}
 use mathlib.Core.Bool.{Bool, true, false, not, _&&_, cond}
 use mathlib.Core.List.{List, [], _∷_, _++_, map}
-use Prim.Native.Nat.{ℕ, zero, suc, _+_, _-_, _*_, _/_, _%_, _^_, _≤_, _<_}
+use Prim.Native.Nat.{ℕ, suc, _+_, _*_, _/_, _%_, _^_, _≤_, _<_}
 use native.Mathlib.Nat.{add-zero}
 use native.Mathlib.Omega.{arith}
 use lib.ListN.{length, getD, set, length-set}
@@ -34,7 +34,7 @@ use Rattle.cut.specs.Bridge.{enteringCovers}
 use Rattle.joint.specs.declared.Job.{Job}
 use Rattle.joint.specs.Pass.{setWeight, coverWeight, weightOf, broughtOf, arrivedOf, coversOf, jobOf, metFor, enterRow}
 use Rattle.joint.specs.Run.{jobFor}
-use Rattle.joint.specs.Coded.{Coded, coded-small, code-place, code-test, place-code}
+use Rattle.joint.specs.Coded.{Coded, code-place, code-test, place-code}
 use Rattle.joint.specs.Lookups.{table-weight, table-last, table-trains}
 use Rattle.joint.specs.Encoded.{rowOf, Good, proper-packable, place-coded, meets-parts}
 use Rattle.joint.specs.Rowed.{Asker, enter-is}
@@ -119,7 +119,7 @@ module _ (C : Case) where
     unfolding lastStation
     last-coded k = anywhere (λ u. lastOf (u .stops) .station < 24) C sound (omega arith) (λ u s. last-known (u .stops) (s .known-stations)) k
 
-    last-low : (k : ℕ) → codeOf (lastStation C k) ≤ 64
+    pub last-low : (k : ℕ) → codeOf (lastStation C k) ≤ 64
     unfolding lastStation
     last-low k = omega (arith, last-coded k)
 

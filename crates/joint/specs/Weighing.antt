@@ -1,19 +1,18 @@
 -- Laws of the weights as code sums them: a set's weight delay by delay, a cover's train by train, and the covers' one after another.
 -- Each turn of a loop takes the first delay, train or cover off what is still to be summed. Assumes nothing.
 use mathlib.Core.Path.{_≡_, refl, ap, ap₂, sym, _∙_}
-use mathlib.Core.Bool.{Bool, true, false, cond}
-use mathlib.Core.List.{List, [], _∷_, _++_}
+use mathlib.Core.Bool.{Bool, cond}
+use mathlib.Core.List.{List, [], _∷_}
 use Prim.Native.Nat.{ℕ, zero, suc, _+_, _-_, _*_, _/_, _%_, _^_, _≤_, _<_}
 use native.Mathlib.Nat.{mul-assoc, zero-add, mul-le-mul, pow-succ', pow-le-pow-right}
 use native.Mathlib.Omega.{arith}
-use lib.ListN.{length, take, getD, set}
-use lib.Dec.{eqb}
+use lib.ListN.{length, take, getD}
 use borrow.Author.Tests.{eq-eqb, ne-eqb}
 use Rattle.rules.specs.Lists.{sum}
 use Rattle.simulation.specs.Lists.{sum-append}
 use Rattle.rows.specs.Written.{take-more}
 use Rattle.joint.specs.declared.Job.{Job}
-use Rattle.joint.specs.Pass.{setWeight, coverWeight, weightOf, broughtOf, arrivedOf}
+use Rattle.joint.specs.Pass.{setWeight, coverWeight, weightOf, broughtOf}
 
 -- ---- a set
 

@@ -1,17 +1,19 @@
 // The joint run on rows of two words: passes, minutes and the run to a stop minute, with the weights that arrive.
 ghost use mathlib.Core.Path.{_≡_};
 ghost use mathlib.Core.Bool.{true, false};
-ghost use mathlib.Core.List.{_∷_, [], _++_, map};
-ghost use Prim.Native.Nat.{_+_, _*_, _/_, _%_, _^_, _≤_, _<_};
-ghost use lib.ListN.{length, take, getD, set, replicate};
-ghost use Rattle.rules.specs.Lists.{each, below};
+ghost use Prim.Native.Nat.{_+_, _*_, _/_, _≤_, _<_};
+ghost use lib.ListN.{length, take, getD};
+ghost use Rattle.rules.specs.Lists.{each};
 ghost use Rattle.simulation.specs.Lists.{Every};
 ghost use Rattle.cut.specs.Cut.{carried, heldOf, enteringOf};
-ghost use Rattle.rows.specs.Rows.{Row, row, words, rowsIn, rowAt, Put, heldRows};
-ghost use Rattle.joint.specs.Pass.{dueOf, asksOf, capOf, jobOf, metFor, askingOf, holdRow, enterRow, coversOf, passedOf, setWeight, weightOf, broughtOf, arrivedOf, notedOf, Small, Within, Two, Passed, Lent};
-ghost use Rattle.joint.specs.Run.{passOf, elementOf, elementsOf, minuteOf, minutesOf, firstByte, firstBytes, firstRow, firstRows, read, Kept, AllStamped, Stamps};
+ghost use Rattle.rows.specs.Rows.{row, words, rowsIn, Put, heldRows};
+ghost use Rattle.joint.specs.Pass.{dueOf, asksOf, capOf, jobOf, metFor, askingOf, holdRow, enterRow, coversOf, passedOf, arrivedOf, notedOf, Small, Within, Two, Passed, Lent};
+ghost use Rattle.joint.specs.Run.{passOf, elementOf, elementsOf, minuteOf, minutesOf, read, Kept, AllStamped, Stamps};
 ghost use Rattle.joint.specs.Visiting.{Seen};
 ghost use Rattle.joint.specs.Answer.{Answers};
+
+mod start;
+mod weigh;
 
 // What a pass is for: minute, element and train; the element's capacity; the state of what enters, that of the block it leaves, and whether it
 // leaves one.
@@ -240,70 +242,6 @@ pub fn pass(
     }
 }
 
-// The weight of the delays of train j whose bits x has.
-pub fn set_weight(tables: &[u64], j: u64, x: u64) -> u64
-    requires { ⌜ Small (now tables) × (j < 8) ⌝ }
-    ensures { λ r. ⌜ r ≡ setWeight (now (tables .entry)) (112 + j * 8) 8 x ⌝ }
-{
-    let mut i = 112 + j * 8;
-    let end = i + 8;
-    let mut left = x;
-    let mut sum = 0;
-    while i < end {
-        if left % 2 == 1 {
-            sum += rows::at(tables, i);
-        }
-        left = left / 2;
-        i += 1;
-    }
-    sum
-}
-
-// The weight of a packed cover: the product of its sets' weights, train by train.
-pub fn cover_weight(tables: &[u64], c: u64) -> u64
-    requires { ⌜ Small (now tables) ⌝ }
-    ensures { λ r. ⌜ r ≡ weightOf (now (tables .entry)) c ⌝ }
-{
-    let n = rows::at(tables, 0);
-    let mut j = 0;
-    let mut left = c;
-    let mut product = 1;
-    while j < n {
-        let w = set_weight(tables, j, left % 256);
-        product = product * w;
-        left = left / 256;
-        j += 1;
-    }
-    product
-}
-
-// The weights of the first n covers together.
-pub fn brought(tables: &[u64], covers: &[u64], n: usize) -> u64
-    requires { ⌜ Small (now tables) × (n ≤ length (now covers)) ⌝ }
-    ensures { λ r. ⌜ r ≡ broughtOf (now (tables .entry)) (take n (now (covers .entry))) ⌝ }
-{
-    let mut i = 0;
-    let mut sum = 0;
-    while i < n {
-        let w = cover_weight(tables, covers[i]);
-        sum = std::num::wrapping_add_u64(sum, w);
-        i += 1;
-    }
-    sum
-}
-
-// The weight at i is raised by x, where the list has that place.
-pub fn raise(weights: &mut [u64], i: u64, x: u64) -> usize
-    ensures { λ r. ⌜ now (weights .exit) ≡ set (now (weights .entry)) i ((getD (now (weights .entry)) i 0 + x) % 2 ^ 64) ⌝ }
-{
-    let j = i as usize;
-    if j < weights.len() {
-        let was = weights[j];
-        weights[j] = std::num::wrapping_add_u64(was, x);
-    }
-    j
-}
-
 // The first n covers have entered: where the element is the train's last station, their weights arrive in the job's minute.
 pub fn arrive(tables: &[u64], covers: &[u64], n: usize, weights: &mut [u64], q: Job) -> usize
     requires { ⌜ Small (now tables) × (n ≤ length (now covers)) × (q .train < 8) × (q .minute < 720) ⌝ }
@@ -312,8 +250,8 @@ pub fn arrive(tables: &[u64], covers: &[u64], n: usize, weights: &mut [u64], q: 
     if q.place != rows::at(tables, 16 + q.train) {
         return 0;
     }
-    let x = brought(tables, covers, n);
-    raise(weights, q.train * 720 + q.minute, x)
+    let x = weigh::brought(tables, covers, n);
+    weigh::raise(weights, q.train * 720 + q.minute, x)
 }
 
 // The stamps of a state that is due at t: for its train and next element, and for the element.
@@ -557,81 +495,6 @@ pub fn minutes(
     v
 }
 
-// Train j's byte of the first cover of train k with delay d: that delay, all delays of another train, or 1 for a train that is not there.
-pub fn first_byte(tables: &[u64], k: u64, d: u64, j: u64) -> u64
-    requires { ⌜ Small (now tables) × (d < 8) × (j < 8) ⌝ }
-    ensures { λ r. ⌜ (r ≡ firstByte (now (tables .entry)) k d j) × (r < 256) ⌝ }
-{
-    if j == k {
-        return 1 << d;
-    }
-    if j < rows::at(tables, 0) {
-        let n = rows::at(tables, 40 + j);
-        return (1 << n) - 1;
-    }
-    1
-}
-
-// The first cover of train k with delay d.
-pub fn first_cover(tables: &[u64], k: u64, d: u64) -> u64
-    requires { ⌜ Small (now tables) × (d < 8) ⌝ }
-    ensures { λ r. ⌜ r ≡ firstBytes (now (tables .entry)) k d 8 0 ⌝ }
-{
-    let mut j = 8;
-    let mut c = 0;
-    while 0 < j {
-        j -= 1;
-        let b = first_byte(tables, k, d, j);
-        c = c * 256 + b;
-    }
-    c
-}
-
-// The first rows of train k, one per delay, from the place w on.
-pub fn first_train(tables: &[u64], k: u64, rows: &mut [u64], w: usize) -> usize
-    requires { ⌜ Small (now tables) × (k < 8) × (w ≤ length (now rows)) ⌝ }
-    ensures { λ r. ⌜ Put (now (rows .entry)) w (words (map (firstRow (now (tables .entry)) k) (below (getD (now (tables .entry)) (40 + k) 0)))) r (now (rows .exit)) ⌝ }
-{
-    let n = rows::at(tables, 40 + k);
-    let arrival = rows::at(tables, 32 + k);
-    let mut d = 0;
-    let mut at = w;
-    while d < n {
-        let delay = rows::at(tables, 48 + (k * 8 + d));
-        let c = first_cover(tables, k, d);
-        at = rows::append(rows, at, k * 524288 + 266240 + (arrival + delay), c);
-        d += 1;
-    }
-    at
-}
-
-// The first list: one row per train and delay, by train, then delay.
-pub fn begin(tables: &[u64], rows: &mut [u64]) -> usize
-    requires { ⌜ Small (now tables) ⌝ }
-    ensures { λ r. ⌜ Put (now (rows .entry)) 0 (words (firstRows (now (tables .entry)))) r (now (rows .exit)) ⌝ }
-{
-    let n = rows::at(tables, 0);
-    let mut k = 0;
-    let mut at = 0;
-    while k < n {
-        at = first_train(tables, k, rows, at);
-        k += 1;
-    }
-    at
-}
-
-// All weights are 0.
-pub fn clear(weights: &mut [u64]) -> usize
-    ensures { λ r. ⌜ now (weights .exit) ≡ replicate (length (now (weights .entry))) 0 ⌝ }
-{
-    let mut i = 0;
-    while i < weights.len() {
-        weights[i] = 0;
-        i += 1;
-    }
-    i
-}
-
 // The run from the first list through the minute `stop`: the number of words of its rows, or the length of the lent rows for refusal 12.
 pub fn run(
     rows: &mut [u64],
@@ -648,8 +511,8 @@ pub fn run(
     requires { ⌜ (stop < 720) × Small (now tables) ⌝ }
     ensures { λ r. ⌜ Answers (now (tables .entry)) stop (length (now (weights .entry))) r (now (rows .exit)) (now (weights .exit)) ⌝ }
 {
-    let _x = clear(weights);
-    let w = begin(tables, rows);
+    let _x = start::clear(weights);
+    let w = start::begin(tables, rows);
     minutes(
         rows,
         w,

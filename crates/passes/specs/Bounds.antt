@@ -99,7 +99,7 @@ head-any : (e : Place) (ls : List Leg) → headIs e ls ≡ true → any (λ l. s
 head-any e [] h = absurd (false≢true h)
 head-any e (l ∷ ls) h = ap (λ (z : Bool). z || any (λ l. same (l .place) e) ls) h
 
-planned-low : (T : ℕ) (e : Place) (ls : List Leg) → facts.Every (λ l. l .planned ≤ T) ls → plannedOn e ls ≤ T
+pub planned-low : (T : ℕ) (e : Place) (ls : List Leg) → facts.Every (λ l. l .planned ≤ T) ls → plannedOn e ls ≤ T
 planned-low T e [] h = omega arith
 planned-low T e (l ∷ ls) h = go (same (l .place) e) (planned-low T e ls (h .1))
   where

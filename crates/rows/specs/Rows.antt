@@ -1,9 +1,9 @@
 -- Rows of two words, a state and a packed cover, as the joint run holds its list in lent words. Assumes nothing: these are definitions.
 use mathlib.Core.Path.{_≡_}
-use mathlib.Core.Bool.{Bool, true, false, not, cond}
-use mathlib.Core.List.{List, [], _∷_, _++_, map}
-use Prim.Native.Nat.{ℕ, zero, suc, _+_, _*_, _/_, _%_, min, _≤_, _<_}
-use lib.ListN.{length, take, getD, set}
+use mathlib.Core.Bool.{Bool, false, not, cond}
+use mathlib.Core.List.{List, [], _∷_, map}
+use Prim.Native.Nat.{ℕ, _+_, _*_, _/_, _%_, min}
+use lib.ListN.{length, take, getD}
 use lib.Seq.{sets}
 use lib.Dec.{ltb, eqb}
 use Rattle.rules.specs.Lists.{one, each, keep}

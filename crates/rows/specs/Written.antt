@@ -1,14 +1,14 @@
 -- Laws of rows as words, and of what is written from a place on: what one call writes after another is what both write together.
 -- A write past the end changes nothing, so no law asks whether there is room. Assumes nothing.
 use mathlib.Core.Path.{_≡_, refl, ap, sym, _∙_}
-use mathlib.Core.Bool.{Bool, true, false, not, cond}
+use mathlib.Core.Bool.{Bool, true, false}
 use mathlib.Core.List.{List, [], _∷_, _++_, map, append-nil, append-assoc}
-use Prim.Native.Nat.{ℕ, zero, suc, _+_, _-_, _*_, min, _≤_, _<_}
+use Prim.Native.Nat.{ℕ, zero, suc, _+_, _*_, min, _≤_, _<_}
 use native.Mathlib.Decide.{decLe}
 use native.Mathlib.Omega.{arith}
 use lib.ListN.{length, take, drop, getD, set, length-append, take-append-drop}
 use lib.Seq.{sets, slice, length-sets, sets-eq, set-out, take-suc, take-take, length-take-le, take-append-seam, drop-append-le}
-use Rattle.rules.specs.Lists.{one, each, keep}
+use Rattle.rules.specs.Lists.{one, each}
 use Rattle.simulation.specs.Lists.{each-append, map-append}
 use Rattle.cut.specs.Lists.{sets-append}
 use Rattle.rows.specs.Rows.{Row, row, rowsOf, words, rowsIn, rowAt, Put, heldRows, enteredRows}

@@ -1,5 +1,5 @@
 -- `joint::arrive` meets its contract, by whether the element is the train's last station. Assumes nothing.
-use mathlib.Core.Path.{sym, ap, _∙_}
+use mathlib.Core.Path.{sym}
 use native.Mathlib.Omega.{arith}
 use borrow.Author.Tests.{eq-eqb, ne-eqb}
 use Rattle.joint.specs.Pass.{arrivedOf}
@@ -8,8 +8,8 @@ use Rattle.joint.proofs.arrive.Statement.{statement}
 use Rattle.joint.proofs.arrive.Tie as tie
 use Rattle.joint.proofs.arrive.Reads as reads
 use Rattle.joint.proofs.arrive.Lts as lts
-use Rattle.joint.proofs.brought.Reads as brought-reads
-use Rattle.joint.proofs.raise.Reads as raise-reads
+use Rattle.joint.proofs.weigh.brought.Reads as brought-reads
+use Rattle.joint.proofs.weigh.raise.Reads as raise-reads
 use Rattle.rows.proofs.at.Reads as at-reads
 
 add-at : tie.Need-add-at

@@ -1,6 +1,5 @@
 -- `joint::asks` meets its contract, by the tests of its branches. Assumes nothing.
-use native.Mathlib.Omega.{arith}
-use mathlib.Core.Path.{sym, ap, _∙_}
+use mathlib.Core.Path.{sym, _∙_}
 use borrow.Author.Tests.{eq-eqb, ne-eqb, not-true, not-false}
 use Rattle.joint.specs.Pass.{asksOf}
 use borrow.Author.Needs.{needs}

@@ -1,5 +1,4 @@
 -- `joint::capacity` meets its contract, by the test of its branch. Assumes nothing.
-use native.Mathlib.Omega.{arith}
 use borrow.Author.Tests.{lt-ltb, le-ltb}
 use Rattle.joint.specs.Pass.{capOf}
 use borrow.Author.Needs.{needs}

@@ -1,6 +1,4 @@
 -- `joint::due` meets its contract, by the test of its branch. Assumes nothing.
-use native.Mathlib.Omega.{arith}
-use borrow.Author.Needs.{needs}
 use borrow.Author.Tests.{eq-eqb, ne-eqb}
 use Rattle.joint.specs.Pass.{dueOf}
 use Rattle.joint.proofs.due.Statement.{statement}

@@ -1,8 +1,6 @@
 -- `joint::minute` meets its contract: sweeping, marking, and the visits. Assumes nothing.
-use mathlib.Core.Path.{_≡_, refl, sym, ap, _∙_}
-use Prim.Native.Nat.{ℕ, _+_, _*_, _/_, _≤_, _<_}
+use mathlib.Core.Path.{refl}
 use native.Mathlib.Omega.{arith}
-use lib.ListN.{length}
 use Rattle.joint.specs.Run.{Kept}
 use Rattle.joint.specs.Visiting.{minute-over, minute-all, lent-same}
 use borrow.Author.Needs.{needs}

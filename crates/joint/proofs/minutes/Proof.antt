@@ -1,7 +1,7 @@
 -- `joint::minutes` meets its contract. The invariant: the minutes before t have passed. Assumes nothing.
 use borrow.Author.Needs.{needs}
 use mathlib.Core.Path.{_≡_, refl, sym, ap, _∙_}
-use Prim.Native.Nat.{ℕ, _+_, _-_, _*_, _≤_, _<_}
+use Prim.Native.Nat.{_+_, _-_, _≤_}
 use native.Mathlib.Omega.{arith}
 use lib.ListN.{length}
 use Rattle.joint.specs.Run.{minuteOf, minutesOf, read, Kept}

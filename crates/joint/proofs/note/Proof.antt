@@ -1,5 +1,5 @@
 -- `joint::note` meets its contract: both stamps, where the state is due. Assumes nothing.
-use mathlib.Core.Path.{sym, ap, _∙_}
+use mathlib.Core.Path.{sym, _∙_}
 use native.Mathlib.Omega.{arith}
 use Prim.Native.Nat.{_+_, _/_}
 use borrow.Author.Tests.{not-true, not-false}

@@ -1,9 +1,8 @@
 -- `joint::pass` meets its contract, by `pass-law` from what its four calls ensure. Assumes nothing.
-use mathlib.Core.Path.{_≡_, refl, sym}
-use Prim.Native.Nat.{_+_, _*_, _≤_}
+use mathlib.Core.Path.{sym}
 use native.Mathlib.Omega.{arith}
 use lib.Seq.{length-take-le}
-use Rattle.rows.specs.Written.{put-fits, put-length}
+use Rattle.rows.specs.Written.{put-fits}
 use Rattle.joint.specs.Outputs.{two-bounds}
 use Rattle.joint.specs.Passing.{pass-law}
 use borrow.Author.Needs.{needs}

@@ -1,10 +1,9 @@
 -- `joint::run` meets its contract: cleared weights, the first list, and the minutes. Assumes nothing.
-use mathlib.Core.Path.{_≡_, refl, sym, ap, _∙_}
-use Prim.Native.Nat.{ℕ, _+_, _*_, _≤_, _<_}
-use native.Mathlib.Omega.{arith}
-use lib.ListN.{length, getD, replicate}
+use mathlib.Core.Path.{refl, ap, _∙_}
+use Prim.Native.Nat.{_+_}
+use lib.ListN.{getD}
 use Rattle.rows.specs.Written.{put-length}
-use Rattle.joint.specs.Run.{Outcome, guard, firstRows, read, minutesOf}
+use Rattle.joint.specs.Run.{Outcome, guard, firstRows, minutesOf}
 use Rattle.joint.specs.Visiting.{lent-same}
 use Rattle.joint.specs.Beginning.{begin-kept, begin-outcome}
 use Rattle.joint.specs.Answer.{ran-answers}
@@ -13,8 +12,8 @@ use Rattle.joint.proofs.run.Statement.{statement}
 use Rattle.joint.proofs.run.Tie as tie
 use Rattle.joint.proofs.run.Reads as reads
 use Rattle.joint.proofs.run.Lts as lts
-use Rattle.joint.proofs.begin.Reads as begin-reads
-use Rattle.joint.proofs.clear.Reads as clear-reads
+use Rattle.joint.proofs.start.begin.Reads as begin-reads
+use Rattle.joint.proofs.start.clear.Reads as clear-reads
 use Rattle.joint.proofs.minutes.Reads as minutes-reads
 
 clear-requires : tie.Need-clear-requires

@@ -1,12 +1,12 @@
 -- `joint::serve` meets its contract: where the pieces use the room up, they leave no place in the rows; else all of them are written.
 -- Assumes nothing.
-use mathlib.Core.Path.{_≡_, refl}
-use Prim.Native.Nat.{_+_, _*_, _/_, _≤_}
+use mathlib.Core.Path.{refl}
+use Prim.Native.Nat.{_/_}
 use native.Mathlib.Omega.{arith}
 use lib.ListN.{length}
 use Rattle.cut.specs.Cut.{carried, Room}
 use Rattle.cut.specs.declared.Pieces.{Pieces}
-use Rattle.cut.specs.Written.{wrote-held-length, wrote-entering-length}
+use Rattle.cut.specs.Written.{wrote-held-length}
 use Rattle.joint.specs.Outputs.{pieces-count, pieces-over, pieces-fit}
 use borrow.Author.Needs.{needs}
 use Rattle.joint.proofs.serve.Statement.{statement}

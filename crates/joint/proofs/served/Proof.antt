@@ -1,8 +1,6 @@
 -- `joint::served` meets its contract, by `served-law` from what its four calls ensure. Assumes nothing.
-use mathlib.Core.Path.{_≡_, refl, sym, ap, _∙_}
-use Prim.Native.Nat.{ℕ, _+_, _*_, _≤_, _<_}
+use mathlib.Core.Path.{sym, ap, _∙_}
 use native.Mathlib.Omega.{arith}
-use lib.ListN.{length, getD}
 use Rattle.joint.specs.Pass.{jobOf}
 use Rattle.joint.specs.Visiting.{served-law, asker-is, asked-is}
 use borrow.Author.Needs.{needs}

@@ -1,8 +1,8 @@
 -- `joint::visit` meets its contract: refused, idle, quiet, or a pass that is made. Assumes nothing.
-use mathlib.Core.Path.{_≡_, refl, sym, ap, _∙_}
-use Prim.Native.Nat.{ℕ, _+_, _*_, _/_, _≤_, _<_}
+use mathlib.Core.Path.{_≡_, sym, _∙_}
+use Prim.Native.Nat.{_/_, _<_}
 use native.Mathlib.Omega.{arith}
-use lib.ListN.{length, getD}
+use lib.ListN.{length}
 use Rattle.joint.specs.Visiting.{visit-over, visit-idle, visit-quiet}
 use borrow.Author.Needs.{needs}
 use Rattle.joint.proofs.visit.Statement.{statement}

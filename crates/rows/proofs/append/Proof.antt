@@ -1,4 +1,3 @@
-use native.Mathlib.Omega.{arith}
 -- `rows::append` meets its contract: two words, one after the other. Assumes nothing.
 use Rattle.rows.specs.Written.{put-join, put-fits}
 use borrow.Author.Needs.{needs}

@@ -1,4 +1,3 @@
-use native.Mathlib.Omega.{arith}
 -- `rows::enter_one` meets its contract: the standing row, and the block where there is one. Assumes nothing.
 use Rattle.rows.specs.Rows.{words, enteredRows}
 use Rattle.rows.specs.Written.{put-join, put-fits}

@@ -2,7 +2,7 @@ use borrow.Author.Needs.{needs}
 -- `rows::gather` meets its contract. The invariant: what is written are the covers met among the first i rows. Assumes nothing.
 use mathlib.Core.Path.{_≡_, sym, _∙_}
 use mathlib.Core.Logic.{⊎-elim}
-use Prim.Native.Nat.{_-_, _≤_, _+_, _*_}
+use Prim.Native.Nat.{_-_, _≤_}
 use native.Mathlib.Omega.{arith}
 use Rattle.rows.specs.Rows.{Put, rowsOf, rowsIn, metOf, meetsOf}
 use Rattle.rows.specs.Written.{put-none, put-join, put-fits, put-length, each-taken, each-left}

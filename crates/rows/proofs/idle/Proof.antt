@@ -1,6 +1,5 @@
 -- `rows::idle` meets its contract, by the test of its branch. Assumes nothing.
 use borrow.Author.Tests.{lt-ltb, le-ltb}
-use native.Mathlib.Omega.{arith}
 use Rattle.rows.specs.Rows.{idleOf}
 use borrow.Author.Needs.{needs}
 use Rattle.rows.proofs.idle.Statement.{statement}

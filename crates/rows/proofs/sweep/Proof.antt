@@ -4,10 +4,9 @@ use borrow.Author.Needs.{needs}
 use mathlib.Core.Path.{_≡_, sym, ap, _∙_}
 use mathlib.Core.Bool.{not}
 use mathlib.Core.Logic.{⊎-elim}
-use Prim.Native.Nat.{_-_, _≤_, _+_, _*_}
+use Prim.Native.Nat.{_-_, _≤_, _*_}
 use native.Mathlib.Omega.{arith}
-use lib.ListN.{length, getD, length-set}
-use Rattle.rows.specs.Rows.{rowsOf, rowsIn, sweptOf, endedOf}
+use lib.ListN.{getD, length-set}
 use Rattle.rows.specs.Swept.{Closing, closing-none, closing-kept, closing-gone}
 use Rattle.rows.proofs.sweep.Statement.{statement}
 use Rattle.rows.proofs.sweep.Tie as tie

@@ -1,8 +1,8 @@
 -- `joint::first_train` meets its contract. The invariant: the rows of the first d delays are written. Assumes nothing.
 use borrow.Author.Needs.{needs}
-use mathlib.Core.Path.{_≡_, refl, sym, ap, ap₂, _∙_}
-use mathlib.Core.List.{_∷_, [], map}
-use Prim.Native.Nat.{ℕ, _+_, _-_, _*_, _≤_, _<_}
+use mathlib.Core.Path.{_≡_}
+use mathlib.Core.List.{map}
+use Prim.Native.Nat.{_+_, _-_, _*_, _≤_}
 use native.Mathlib.Omega.{arith}
 use lib.ListN.{getD}
 use Rattle.rules.specs.Lists.{below}
@@ -10,11 +10,11 @@ use Rattle.rows.specs.Rows.{words, Put}
 use Rattle.rows.specs.Written.{put-none, put-join, put-fits, put-length}
 use Rattle.joint.specs.Run.{firstRow}
 use Rattle.joint.specs.Beginning.{train-none, train-more}
-use Rattle.joint.proofs.first_train.Statement.{statement}
-use Rattle.joint.proofs.first_train.Tie as tie
-use Rattle.joint.proofs.first_train.Reads as reads
-use Rattle.joint.proofs.first_train.Lts as lts
-use Rattle.joint.proofs.first_cover.Reads as first-cover-reads
+use Rattle.joint.proofs.start.first_train.Statement.{statement}
+use Rattle.joint.proofs.start.first_train.Tie as tie
+use Rattle.joint.proofs.start.first_train.Reads as reads
+use Rattle.joint.proofs.start.first_train.Lts as lts
+use Rattle.joint.proofs.start.first_cover.Reads as first-cover-reads
 use Rattle.rows.proofs.append.Reads as append-reads
 use Rattle.rows.proofs.at.Reads as at-reads
 

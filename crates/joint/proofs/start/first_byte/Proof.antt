@@ -1,17 +1,16 @@
 -- `joint::first_byte` meets its contract, by the tests of its branches. Assumes nothing.
-use mathlib.Core.Path.{_≡_, sym, ap, _∙_}
-use Prim.Native.Nat.{ℕ, _+_, _-_, _*_, _%_, _^_, _≤_, _<_}
+use mathlib.Core.Path.{_≡_}
+use Prim.Native.Nat.{_*_, _%_, _^_, _≤_}
 use native.Mathlib.Omega.{arith}
-use lib.ListN.{getD}
 use lib.Pow.{pow-pos}
 use borrow.Author.Tests.{eq-eqb, ne-eqb, lt-ltb, le-ltb}
 use Rattle.joint.specs.Run.{firstByte}
 use Rattle.joint.specs.Beginning.{shift-one, power-small, power-byte}
 use borrow.Author.Needs.{needs}
-use Rattle.joint.proofs.first_byte.Statement.{statement}
-use Rattle.joint.proofs.first_byte.Tie as tie
-use Rattle.joint.proofs.first_byte.Reads as reads
-use Rattle.joint.proofs.first_byte.Lts as lts
+use Rattle.joint.proofs.start.first_byte.Statement.{statement}
+use Rattle.joint.proofs.start.first_byte.Tie as tie
+use Rattle.joint.proofs.start.first_byte.Reads as reads
+use Rattle.joint.proofs.start.first_byte.Lts as lts
 use Rattle.rows.proofs.at.Reads as at-reads
 
 shl-result : tie.Need-shl-result

@@ -1,15 +1,15 @@
 -- `joint::set_weight` meets its contract. The invariant: what is summed and what is still to sum are the set's weight. Assumes nothing.
 use borrow.Author.Needs.{needs}
-use mathlib.Core.Path.{_≡_, refl, sym, _∙_, ap}
+use mathlib.Core.Path.{_≡_, ap}
 use mathlib.Core.Logic.{⊎-elim}
-use Prim.Native.Nat.{ℕ, _+_, _-_, _*_, _/_, _%_, _≤_, _<_}
+use Prim.Native.Nat.{ℕ, _+_, _-_, _*_, _≤_}
 use native.Mathlib.Omega.{arith}
 use Rattle.joint.specs.Pass.{setWeight}
 use Rattle.joint.specs.Weighing.{set-none, set-taken, set-left}
-use Rattle.joint.proofs.set_weight.Statement.{statement}
-use Rattle.joint.proofs.set_weight.Tie as tie
-use Rattle.joint.proofs.set_weight.Reads as reads
-use Rattle.joint.proofs.set_weight.Lts as lts
+use Rattle.joint.proofs.weigh.set_weight.Statement.{statement}
+use Rattle.joint.proofs.weigh.set_weight.Tie as tie
+use Rattle.joint.proofs.weigh.set_weight.Reads as reads
+use Rattle.joint.proofs.weigh.set_weight.Lts as lts
 use Rattle.rows.proofs.at.Reads as at-reads
 
 abbrev Inv-loop : tie.InvT-loop

@@ -1,18 +1,18 @@
 -- `joint::cover_weight` meets its contract. The invariant: the product so far and that of the trains still to come are the cover's weight, and each
 -- factor is at most 100. Assumes nothing.
 use borrow.Author.Needs.{needs}
-use mathlib.Core.Path.{_≡_, refl, sym, _∙_, ap}
-use Prim.Native.Nat.{ℕ, _+_, _-_, _*_, _/_, _%_, _^_, _≤_, _<_}
+use mathlib.Core.Path.{_≡_, sym, _∙_, ap}
+use Prim.Native.Nat.{ℕ, _+_, _-_, _*_, _/_, _%_, _^_, _≤_}
 use native.Mathlib.Omega.{arith}
 use native.Mathlib.Nat.{mul-one, one-mul}
 use lib.ListN.{getD}
-use Rattle.joint.specs.Pass.{coverWeight, weightOf, setWeight}
+use Rattle.joint.specs.Pass.{coverWeight, weightOf}
 use Rattle.joint.specs.Weighing.{cover-none, cover-more, product-more, product-fits}
-use Rattle.joint.proofs.cover_weight.Statement.{statement}
-use Rattle.joint.proofs.cover_weight.Tie as tie
-use Rattle.joint.proofs.cover_weight.Reads as reads
-use Rattle.joint.proofs.cover_weight.Lts as lts
-use Rattle.joint.proofs.set_weight.Reads as set-weight-reads
+use Rattle.joint.proofs.weigh.cover_weight.Statement.{statement}
+use Rattle.joint.proofs.weigh.cover_weight.Tie as tie
+use Rattle.joint.proofs.weigh.cover_weight.Reads as reads
+use Rattle.joint.proofs.weigh.cover_weight.Lts as lts
+use Rattle.joint.proofs.weigh.set_weight.Reads as set-weight-reads
 use Rattle.rows.proofs.at.Reads as at-reads
 
 abbrev Inv-loop : tie.InvT-loop

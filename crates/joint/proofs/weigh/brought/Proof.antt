@@ -1,16 +1,16 @@
 -- `joint::brought` meets its contract. The invariant: the sum is that of the covers passed, as the machine sums. Assumes nothing.
 use borrow.Author.Needs.{needs}
-use mathlib.Core.Path.{_≡_, refl, sym, _∙_, ap₂}
-use Prim.Native.Nat.{ℕ, _+_, _-_, _%_, _^_, _≤_, _<_}
+use mathlib.Core.Path.{_≡_, sym, _∙_, ap₂}
+use Prim.Native.Nat.{ℕ, _+_, _-_, _%_, _^_, _≤_}
 use native.Mathlib.Omega.{arith}
 use lib.ListN.{take}
 use Rattle.joint.specs.Pass.{broughtOf}
 use Rattle.joint.specs.Weighing.{brought-none, brought-more}
-use Rattle.joint.proofs.brought.Statement.{statement}
-use Rattle.joint.proofs.brought.Tie as tie
-use Rattle.joint.proofs.brought.Reads as reads
-use Rattle.joint.proofs.brought.Lts as lts
-use Rattle.joint.proofs.cover_weight.Reads as cover-weight-reads
+use Rattle.joint.proofs.weigh.brought.Statement.{statement}
+use Rattle.joint.proofs.weigh.brought.Tie as tie
+use Rattle.joint.proofs.weigh.brought.Reads as reads
+use Rattle.joint.proofs.weigh.brought.Lts as lts
+use Rattle.joint.proofs.weigh.cover_weight.Reads as cover-weight-reads
 use Rattle.std.proofs.num.wrapping_add_u64.Reads as wrapping-add-u64-reads
 
 abbrev Inv-loop : tie.InvT-loop

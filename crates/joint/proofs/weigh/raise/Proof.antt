@@ -5,10 +5,10 @@ use Prim.Native.Nat.{ℕ, _+_, _%_, _^_}
 use lib.ListN.{getD, set}
 use lib.Seq.{set-out}
 use borrow.Author.Needs.{needs}
-use Rattle.joint.proofs.raise.Statement.{statement}
-use Rattle.joint.proofs.raise.Tie as tie
-use Rattle.joint.proofs.raise.Reads as reads
-use Rattle.joint.proofs.raise.Lts as lts
+use Rattle.joint.proofs.weigh.raise.Statement.{statement}
+use Rattle.joint.proofs.weigh.raise.Tie as tie
+use Rattle.joint.proofs.weigh.raise.Reads as reads
+use Rattle.joint.proofs.weigh.raise.Lts as lts
 use Rattle.std.proofs.num.wrapping_add_u64.Reads as wrapping-add-u64-reads
 
 mul-was : tie.Need-mul-was

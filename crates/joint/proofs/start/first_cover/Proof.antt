@@ -1,15 +1,15 @@
 -- `joint::first_cover` meets its contract. The invariant: the bytes of the trains from j on are packed. Assumes nothing.
 use borrow.Author.Needs.{needs}
-use mathlib.Core.Path.{_≡_, refl, sym, ap, ap₂, _∙_}
+use mathlib.Core.Path.{_≡_, sym, ap, ap₂, _∙_}
 use Prim.Native.Nat.{ℕ, _+_, _-_, _*_, _^_, _≤_, _<_}
 use native.Mathlib.Omega.{arith}
 use Rattle.joint.specs.Run.{firstBytes, firstByte}
 use Rattle.joint.specs.Beginning.{bytes-none, bytes-more, byte-fits}
-use Rattle.joint.proofs.first_cover.Statement.{statement}
-use Rattle.joint.proofs.first_cover.Tie as tie
-use Rattle.joint.proofs.first_cover.Reads as reads
-use Rattle.joint.proofs.first_cover.Lts as lts
-use Rattle.joint.proofs.first_byte.Reads as first-byte-reads
+use Rattle.joint.proofs.start.first_cover.Statement.{statement}
+use Rattle.joint.proofs.start.first_cover.Tie as tie
+use Rattle.joint.proofs.start.first_cover.Reads as reads
+use Rattle.joint.proofs.start.first_cover.Lts as lts
+use Rattle.joint.proofs.start.first_byte.Reads as first-byte-reads
 
 abbrev Inv-loop : tie.InvT-loop
 Inv-loop tables k d j₀ c₀ j c = (j ≤ 8) × (c ≡ firstBytes tables k d (8 - j) j) × (c < 256 ^ (8 - j))

@@ -1,15 +1,15 @@
 -- `joint::clear` meets its contract. The invariant: the first i weights are 0. Assumes nothing.
 use borrow.Author.Needs.{needs}
 use mathlib.Core.Path.{_≡_, refl, sym, ap, _∙_}
-use Prim.Native.Nat.{ℕ, _+_, _-_, _≤_, _<_}
+use Prim.Native.Nat.{ℕ, _-_, _≤_}
 use native.Mathlib.Omega.{arith}
-use lib.ListN.{length, take, set, replicate, length-set}
+use lib.ListN.{length, take, replicate, length-set}
 use lib.Seq.{take-all}
 use Rattle.joint.specs.Beginning.{clear-more}
-use Rattle.joint.proofs.clear.Statement.{statement}
-use Rattle.joint.proofs.clear.Tie as tie
-use Rattle.joint.proofs.clear.Reads as reads
-use Rattle.joint.proofs.clear.Lts as lts
+use Rattle.joint.proofs.start.clear.Statement.{statement}
+use Rattle.joint.proofs.start.clear.Tie as tie
+use Rattle.joint.proofs.start.clear.Reads as reads
+use Rattle.joint.proofs.start.clear.Lts as lts
 
 abbrev Inv-loop : tie.InvT-loop
 Inv-loop weights₀ i₀ weights i = (i ≤ length weights) × (take i weights ≡ replicate {A = ℕ} i 0) × (length weights ≡ length weights₀)

@@ -1,18 +1,18 @@
 -- `joint::begin` meets its contract. The invariant: the rows of the first k trains are written. Assumes nothing.
 use borrow.Author.Needs.{needs}
-use mathlib.Core.Path.{_≡_, refl, sym, ap, _∙_}
-use Prim.Native.Nat.{ℕ, _+_, _-_, _*_, _≤_, _<_}
+use mathlib.Core.Path.{_≡_}
+use Prim.Native.Nat.{_-_, _≤_}
 use native.Mathlib.Omega.{arith}
 use lib.ListN.{getD}
 use Rattle.rows.specs.Rows.{words, Put}
 use Rattle.rows.specs.Written.{put-none, put-join, put-fits, put-length}
 use Rattle.joint.specs.Run.{firstRows}
 use Rattle.joint.specs.Beginning.{firstTrains, trains-none, trains-more}
-use Rattle.joint.proofs.begin.Statement.{statement}
-use Rattle.joint.proofs.begin.Tie as tie
-use Rattle.joint.proofs.begin.Reads as reads
-use Rattle.joint.proofs.begin.Lts as lts
-use Rattle.joint.proofs.first_train.Reads as first-train-reads
+use Rattle.joint.proofs.start.begin.Statement.{statement}
+use Rattle.joint.proofs.start.begin.Tie as tie
+use Rattle.joint.proofs.start.begin.Reads as reads
+use Rattle.joint.proofs.start.begin.Lts as lts
+use Rattle.joint.proofs.start.first_train.Reads as first-train-reads
 use Rattle.rows.proofs.at.Reads as at-reads
 
 abbrev Inv-loop : tie.InvT-loop
