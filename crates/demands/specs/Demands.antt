@@ -43,7 +43,7 @@ module _ (cs bk : List ℕ) (C : Case) (accepted : files cs bk ≡ answer C) whe
 
   -- ---- demand 2
 
-  seen : (m : ℕ) → Seen C m
+  pub seen : (m : ℕ) → Seen C m
   unfolding view
   seen m = record {
     seen = λ x choice. simulation C case-sound x choice m .arrived;

@@ -28,7 +28,7 @@ use Rattle.single.specs.Codes.{known-code}
 use Rattle.single.specs.Looks.{look-last}
 use Rattle.single.specs.Asking.{last-known}
 
-abbrev Low : ℕ → Type 0
+abbrev pub Low : ℕ → Type 0
 Low v = v < 2048
 
 each-low : (f : ℕ → List ℕ) → ((k : ℕ) → Every Low (f k)) → (l : List ℕ) → Every Low (each f l)
@@ -96,7 +96,7 @@ module _ (C : Case) (sound : Sound C) (bytes : ByteDelays C) where
       planned-every Low (placeOf e) (way C k) (omega arith)
       (every-map {Q = λ l. Low (l .planned)} (λ l h. omega (arith, sound .in-window)) (way C k) (way-planned C sound k))
 
-  tables-low : Every Low (tables C)
+  pub tables-low : Every Low (tables C)
   unfolding tables
   tables-low =
       every-append Low (headTable C) (trainTables C ++ pairTables C ++ capacities ++ nexts ++ stays) head-low

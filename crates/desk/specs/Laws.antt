@@ -1,0 +1,220 @@
+-- The steps of a call, one after the other: what the files and arguments come to, the run after them, and the call that they make up.
+-- Each law goes by the cases of a result. Assumes nothing.
+use mathlib.Core.Path.{_≡_, refl, sym, ap, _∙_, subst}
+use mathlib.Core.Bool.{Bool, true, false, _||_}
+use mathlib.Core.List.{List, [], _∷_}
+use Prim.Native.Nat.{ℕ, zero, suc, _+_, _≤_, _<_}
+use native.Mathlib.Omega.{arith}
+use lib.ListN.{length, getD}
+use lib.Dec.{leb, ltb}
+use borrow.Author.Tests.{lt-ltb, le-ltb, ltb-true, ltb-false, leb-true, leb-false}
+use Rattle.rules.specs.Refusals.{Refusal, Rule, _when_, verdict, Result, refuse, then, unless}
+use Rattle.rules.specs.Refusals.Fault.{noTrain, stopTooLate}
+use Rattle.rules.specs.Refusals.Result.{refused, answer}
+use Rattle.rules.specs.Files.{Head, Case, files, word}
+use Rattle.rules.specs.Turns.{State}
+use Rattle.rules.specs.Joint.{Entry, joint}
+use Rattle.rules.specs.Calls.{afterArguments, Run, runTo, noSuchTrain, stoppedRun, wholeRun, trainRun, filled}
+use Rattle.sound.specs.Places.{Told, files-told}
+use Rattle.lookup.specs.declared.Sizes.{Sizes}
+use Rattle.lookup.specs.declared.Files.{Files}
+use Rattle.lookup.specs.declared.Files.the-variants.{Sound, Unsound}
+use Rattle.lookup.specs.Answers.{sizesOf, filesOf}
+use Rattle.arguments.specs.Arguments.{forTrain, forStop}
+use Rattle.arguments.specs.Laws.{minute-agrees}
+use Rattle.images.specs.Rows.{Held, Weighed}
+use Rattle.desk.specs.declared.Answer.{Answer}
+use Rattle.desk.specs.Answers.{refusedWith, answered, answerOf}
+use Rattle.desk.specs.Steps.{Fits, Begins, Start, runOf, filesAnswer, Tells, Came, Ran, Filled, entries, rowsAfter, weightsAfter, InWords, Laid}
+use Rattle.desk.specs.Steps.Came.{over, stands}
+
+-- ---- the files and the arguments
+
+told-fits : {n : ℕ} → n ≤ 17 → (r : Refusal) → Told n r → Fits (r .number) (r .file) (r .place)
+told-fits h r t = record {
+  some = t .some-number;
+  number = omega (arith, t .few-numbers);
+  file = omega (arith, t .two-files);
+  place = omega (arith, t .in-reach);
+}
+
+pub start-tells : (cs bk : List ℕ) (m : ℕ) (f : Files) → Start cs bk m f → Tells f
+start-tells cs bk m (Sound s) h = tt
+start-tells cs bk m (Unsound n f p) h = h
+
+-- a refusal of an argument stays, and an argument that stands goes on
+unless-then : {A B D : Type 0} (n : ℕ) (f : A → Result B) (go : B → Result D) (a : A) → then (unless n 0 0 f a) go ≡ unless n 0 0 (λ x. then (f x) go) a
+unless-then zero f go a = refl
+unless-then (suc n) f go a = refl
+
+pub arguments-then : {D : Type 0} (rule : Case → List Rule) (go : Case → Result D) (R : Result Case)
+    → then (then R (λ C. afterArguments (rule C) answer C)) go ≡ then R (λ C. afterArguments (rule C) go C)
+arguments-then rule go (refused r) = refl
+arguments-then rule go (answer C) = unless-then (verdict (rule C)) answer go C
+
+module _ (cs bk : List ℕ) where
+  -- a result that is a refusal, or the files' case of which P holds
+  pub data Judged (P : Case → Type 0) (R : Result Case) : Type 0 where
+    stopped : (r : Refusal) → Fits (r .number) (r .file) (r .place) → R ≡ refused r → Judged P R
+    goes : (C : Case) → files cs bk ≡ answer C → P C → R ≡ answer C → Judged P R
+
+  pub refused-files : {P : Case → Type 0} {R : Result Case} (r : Refusal) → files cs bk ≡ refused r → R ≡ refused r → Judged P R
+  refused-files r e q = stopped r (told-fits (omega arith) r (files-told cs bk r e)) q
+
+  abbrev In : ℕ → Case → Type 0
+  In m C = m ≤ C .head .lastMinute
+
+  judged-starts : {m : ℕ} {R : Result Case} → Judged (In m) R → Start cs bk m (filesOf R)
+  judged-starts {m} {R} (stopped r h q) = subst (λ (A : Result Case). Start cs bk m (filesOf A)) (sym q) h
+  judged-starts {m} {R} (goes C e h q) =
+      subst (λ (A : Result Case). Start cs bk m (filesOf A)) (sym q) (record { of = C; accepted = e; sizes = refl; within = h })
+
+  judged-runs : {m : ℕ} {R : Result Case} → Judged (In m) R → runOf cs bk m (filesOf R) ≡ then R (runTo m)
+  judged-runs {m} {R} (stopped r h q) = ap (λ (A : Result Case). runOf cs bk m (filesOf A)) q ∙ sym (ap (λ (A : Result Case). then A (runTo m)) q)
+  judged-runs {m} {R} (goes C e h q) =
+      ap (λ (A : Result Case). runOf cs bk m (filesOf A)) q
+      ∙ ap (λ (A : Result Case). then A (runTo m)) e
+      ∙ sym (ap (λ (A : Result Case). then A (runTo m)) q)
+
+  pub argument-fits : (n : ℕ) → 1 ≤ n → n ≤ 17 → Fits n 0 0
+  argument-fits n p q = record { some = p; number = omega arith; file = omega arith; place = omega arith }
+
+  -- ---- the run to a stop minute
+
+  stop-judged : (m : ℕ) → Judged (In m) (forStop cs bk m)
+  unfolding forStop
+  stop-judged m = go (files cs bk) refl
+    where
+      late : (C : Case) → files cs bk ≡ answer C → (b : Bool) → ltb (C .head .lastMinute) m ≡ b → Judged (In m) (forStop cs bk m)
+      late C e true h = stopped (record { number = 17; file = 0; place = 0 }) (argument-fits 17 (omega arith) (omega arith)) (rw (e, h))
+      late C e false h = goes C e (ltb-false (C .head .lastMinute) m h) (rw (e, h))
+
+      go : (R : Result Case) → files cs bk ≡ R → Judged (In m) (forStop cs bk m)
+      go (refused r) e = refused-files r e (rw e)
+      go (answer C) e = late C e (ltb (C .head .lastMinute) m) refl
+
+  stop-run : (m : ℕ) → then (forStop cs bk m) (runTo m) ≡ stoppedRun cs bk m
+  unfolding forStop stoppedRun
+  stop-run m = arguments-then (λ C. stopTooLate when ltb (C .head .lastMinute) m ∷ []) (runTo m) (files cs bk)
+
+  -- ---- the run over the whole window, from the last minute in the head's bytes
+
+  whole-judged : Judged (In (word cs 3)) (files cs bk)
+  whole-judged = go (files cs bk) refl
+    where
+      go : (R : Result Case) → files cs bk ≡ R → Judged (In (word cs 3)) (files cs bk)
+      go (refused r) e = refused-files r e e
+      go (answer C) e = goes C e (omega (arith, minute-agrees cs bk C e)) e
+
+  whole-run : then (files cs bk) (runTo (word cs 3)) ≡ wholeRun cs bk
+  unfolding wholeRun
+  whole-run = go (files cs bk) refl
+    where
+      go : (R : Result Case) → files cs bk ≡ R → then R (runTo (word cs 3)) ≡ then R (λ C. runTo (C .head .lastMinute) C)
+      go (refused r) e = refl
+      go (answer C) e = ap (λ (m : ℕ). runTo m C) (minute-agrees cs bk C e)
+
+  train-judged : (k : ℕ) → Judged (In (word cs 3)) (forTrain cs bk k)
+  unfolding forTrain noSuchTrain
+  train-judged k = go (files cs bk) refl
+    where
+      none : (C : Case) → files cs bk ≡ answer C → (b : Bool) → leb (length (C .trains)) k ≡ b → Judged (In (word cs 3)) (forTrain cs bk k)
+      none C e true h = stopped (record { number = 16; file = 0; place = 0 }) (argument-fits 16 (omega arith) (omega arith)) (rw (e, h))
+      none C e false h = goes C e (omega (arith, minute-agrees cs bk C e)) (rw (e, h))
+
+      go : (R : Result Case) → files cs bk ≡ R → Judged (In (word cs 3)) (forTrain cs bk k)
+      go (refused r) e = refused-files r e (rw e)
+      go (answer C) e = none C e (leb (length (C .trains)) k) refl
+
+  train-run : (k : ℕ) → then (forTrain cs bk k) (runTo (word cs 3)) ≡ trainRun cs bk k
+  unfolding forTrain trainRun
+  train-run k =
+      arguments-then (λ C. noTrain when noSuchTrain C k ∷ []) (runTo (word cs 3)) (files cs bk)
+      ∙ go (files cs bk) refl
+    where
+      go : (R : Result Case) → files cs bk ≡ R
+          → then R (λ C. afterArguments (noTrain when noSuchTrain C k ∷ []) (runTo (word cs 3)) C)
+          ≡ then R (λ C. afterArguments (noTrain when noSuchTrain C k ∷ []) (runTo (C .head .lastMinute)) C)
+      go (refused r) e = refl
+      go (answer C) e = ap (λ (m : ℕ). afterArguments (noTrain when noSuchTrain C k ∷ []) (runTo m) C) (minute-agrees cs bk C e)
+
+  -- ---- from what the code was told
+
+  module _ {f : Files} where
+    pub stop-starts : (m : ℕ) → f ≡ filesOf (forStop cs bk m) → Start cs bk m f
+    stop-starts m e = subst (Start cs bk m) (sym e) (judged-starts (stop-judged m))
+
+    pub stop-runs : (m : ℕ) → f ≡ filesOf (forStop cs bk m) → runOf cs bk m f ≡ stoppedRun cs bk m
+    stop-runs m e = ap (runOf cs bk m) e ∙ judged-runs (stop-judged m) ∙ stop-run m
+
+    pub whole-starts : {m : ℕ} → m ≡ word cs 3 → f ≡ filesOf (files cs bk) → Start cs bk m f
+    whole-starts {m} q e = subst (λ (n : ℕ). Start cs bk n f) (sym q) (subst (Start cs bk (word cs 3)) (sym e) (judged-starts whole-judged))
+
+    pub whole-runs : {m : ℕ} → m ≡ word cs 3 → f ≡ filesOf (files cs bk) → runOf cs bk m f ≡ wholeRun cs bk
+    whole-runs {m} q e = ap (λ (n : ℕ). runOf cs bk n f) q ∙ ap (runOf cs bk (word cs 3)) e ∙ judged-runs whole-judged ∙ whole-run
+
+    pub train-starts : {m : ℕ} → m ≡ word cs 3 → (k : ℕ) → f ≡ filesOf (forTrain cs bk k) → Start cs bk m f
+    train-starts {m} q k e = subst (λ (n : ℕ). Start cs bk n f) (sym q) (subst (Start cs bk (word cs 3)) (sym e) (judged-starts (train-judged k)))
+
+    pub train-runs : {m : ℕ} → m ≡ word cs 3 → (k : ℕ) → f ≡ filesOf (forTrain cs bk k) → runOf cs bk m f ≡ trainRun cs bk k
+    train-runs {m} q k e = ap (λ (n : ℕ). runOf cs bk n f) q ∙ ap (runOf cs bk (word cs 3)) e ∙ judged-runs (train-judged k) ∙ train-run k
+
+-- ---- the run, refused or laid into memory
+
+-- the run of an accepted case
+runs : (cs bk : List ℕ) (m : ℕ) {f : Files} {s : Sizes} → f ≡ Sound s → (b : Begins cs bk m s) → runOf cs bk m f ≡ runTo m (b .of)
+runs cs bk m e b = ap (runOf cs bk m) e ∙ ap (λ (R : Result Case). then R (runTo m)) (b .accepted)
+
+-- an answered run has few entries
+pub ran-few : (C : Case) (m : ℕ) {r : ℕ} {list ws tables : List ℕ} → Ran C m r list ws tables → (r ≡ 1025 → ⊥) → r ≤ 1024
+ran-few C m {r} {list} {ws} ran fits = go (ran .came)
+  where
+    go : Came C m r list ws → r ≤ 1024
+    go (over met h) = absurd (fits h)
+    go (stands met h few held weighed) = few
+
+module _ (cs bk : List ℕ) (m : ℕ) {f : Files} {rows weights : List ℕ} {a : Answer} {tables ws rows′ weights′ : List ℕ} where
+  -- the files or the arguments are refused
+  pub laid-refused : {n i p : ℕ} → f ≡ Unsound n i p → Tells f → a ≡ filesAnswer f → rows′ ≡ filled 16384 [] rows → weights′ ≡ filled 40320 [] weights
+      → Laid (runOf cs bk m f) rows weights a tables ws rows′ weights′
+  laid-refused e t q r w =
+      let U : runOf cs bk m f ≡ refused _ = ap (runOf cs bk m) e in record {
+        result = q ∙ ap filesAnswer e ∙ sym (ap (λ (W : Result Run). answerOf (entries W)) U);
+        rows-are = r ∙ sym (ap (λ (W : Result Run). rowsAfter W rows) U);
+        weights-are = w ∙ sym (ap (λ (W : Result Run). weightsAfter W weights) U);
+        words = subst (λ (W : Result Run). InWords W tables ws) (sym U) (subst Tells e t .some);
+      }
+
+  module _ {s : Sizes} (e : f ≡ Sound s) (b : Begins cs bk m s) where
+    -- the run meets refusal 12
+    pub laid-over : {r : ℕ} {list : List ℕ} → Ran (b .of) m r list ws tables → r ≡ 1025 → a ≡ refusedWith (record { number = 12; file = 0; place = 0 })
+        → rows′ ≡ filled 16384 [] rows → weights′ ≡ filled 40320 [] weights → Laid (runOf cs bk m f) rows weights a tables ws rows′ weights′
+    laid-over {r} {list} ran full q z w = go (ran .came)
+      where
+        go : Came (b .of) m r list ws → Laid (runOf cs bk m f) rows weights a tables ws rows′ weights′
+        go (over met h) =
+            let U : runOf cs bk m f ≡ refuse 12 0 0 = runs cs bk m e b ∙ ap (λ (n : ℕ). unless n 0 0 answer (record { of = b .of; state = joint (b .of) m })) met in record {
+              result = q ∙ sym (ap (λ (W : Result Run). answerOf (entries W)) U);
+              rows-are = z ∙ sym (ap (λ (W : Result Run). rowsAfter W rows) U);
+              weights-are = w ∙ sym (ap (λ (W : Result Run). weightsAfter W weights) U);
+              words = subst (λ (W : Result Run). InWords W tables ws) (sym U) (omega arith);
+            }
+        go (stands met h few held weighed) = absurd (omega arith)
+
+    -- the run is answered
+    pub laid-stands : {r : ℕ} {list : List ℕ} → Ran (b .of) m r list ws tables → (r ≡ 1025 → ⊥) → a ≡ answered r
+        → Filled r (s .trains) list ws rows weights rows′ weights′ → Laid (runOf cs bk m f) rows weights a tables ws rows′ weights′
+    laid-stands {r} {list} ran fits q fills = go (ran .came)
+      where
+        go : Came (b .of) m r list ws → Laid (runOf cs bk m f) rows weights a tables ws rows′ weights′
+        go (over met h) = absurd (fits h)
+        go (stands met h few held weighed) =
+            let u : Run = record { of = b .of; state = joint (b .of) m } in
+            let U : runOf cs bk m f ≡ answer u = runs cs bk m e b ∙ ap (λ (n : ℕ). unless n 0 0 answer u) met in
+            let trains : length (b .of .trains) ≡ s .trains = sym (ap (λ (z : Sizes). z .trains) (b .sizes)) in
+            let z = fills u h (subst (λ (n : ℕ). Held n (joint (b .of) m .list) list) trains held) weighed in record {
+              result = q ∙ ap answered (sym h) ∙ sym (ap (λ (W : Result Run). answerOf (entries W)) U);
+              rows-are = z .0 ∙ sym (ap (λ (W : Result Run). rowsAfter W rows) U);
+              weights-are = z .1 ∙ sym (ap (λ (W : Result Run). weightsAfter W weights) U);
+              words = subst (λ (W : Result Run). InWords W tables ws) (sym U) (weighed, ran .looked);
+            }

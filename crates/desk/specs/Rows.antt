@@ -1,0 +1,140 @@
+-- The joint run in code, in the words of the steps: refusal 12, or rows that hold the list and words that hold the weights.
+-- A row's words are the same in the run and in its image, and each entry of the list is bounded. Assumes nothing.
+use mathlib.Core.Path.{_≡_, refl, sym, ap, ap₂, _∙_, subst}
+use mathlib.Core.Bool.{Bool, true, false, cond, _||_}
+use mathlib.Core.List.{List, [], _∷_, _++_, map}
+use Prim.Native.Nat.{ℕ, zero, suc, _+_, _*_, _/_, _≤_, _<_}
+use native.Mathlib.Omega.{arith}
+use lib.ListN.{length, getD, take, drop}
+use lib.Seq.{take-append-le}
+use Rattle.rules.specs.Lists.{each, any, below}
+use Rattle.rules.specs.Files.{Head, Case, files}
+use Rattle.rules.specs.Turns.{State, Mark, Place}
+use Rattle.rules.specs.Turns.Place.{outside, station, track, gone}
+use Rattle.rules.specs.Joint.{Cover, Entry, firstList, joint}
+use Rattle.sound.specs.Facts.{Sound}
+use Rattle.simulation.specs.Lists.{Every}
+use Rattle.simulation.specs.Simulation.{Sets, joint-sets}
+use Rattle.weights.specs.Longest.{passes}
+use Rattle.weights.specs.Room.{met-minutes, list-fits}
+use Rattle.passes.specs.Passes.{jointPasses}
+use Rattle.passes.specs.Joint.{joint-passes}
+use Rattle.passes.specs.Bounds.{ByteDelays, Bounded, bounded-train, bounded-minute, joint-bounded}
+use Rattle.codes.specs.Codes.{stateOf}
+use Rattle.cut.specs.Packed as cut
+use Rattle.rows.specs.Rows as rows
+use Rattle.joint.specs.Coded.{Coded, bounded-coded}
+use Rattle.joint.specs.Encoded as encoded
+use Rattle.joint.specs.Answer as joints
+use Rattle.images.specs.Rows.{packed, rowOf, SmallSet, SmallPlace, SmallMark, SmallCover, SmallEntry, Held, Weighed}
+use Rattle.rules.specs.Refusals.{Result}
+use Rattle.rules.specs.Refusals.Result.{answer}
+use Rattle.sound.specs.Accepted.{accepted-sound}
+use Rattle.codes.specs.Tables.{tables}
+use Rattle.lookup.specs.declared.Sizes.{Sizes}
+use Rattle.plan.specs.Small.{Bytes}
+use Rattle.joint.specs.Pass.{Small}
+use Rattle.joint.specs.Lookups.{table-room}
+use Rattle.desk.specs.Single.{byte-delays}
+use Rattle.desk.specs.Tables.{tables-small}
+use Rattle.desk.specs.Steps.{Begins, Came, Ran}
+use Rattle.desk.specs.Steps.Came.{over, stands}
+
+-- ---- a row's words
+
+packed-same : (b : ℕ) (p : Cover) → cut.packedIn b p ≡ packed b p
+unfolding cut.packedIn
+packed-same zero p = refl
+packed-same (suc b) [] = omega (arith, packed-same b [])
+packed-same (suc b) (s ∷ p) = omega (arith, packed-same b p)
+
+words-same : (es : List Entry) → rows.words (map encoded.rowOf es) ≡ each rowOf es
+unfolding rows.words encoded.rowOf rowOf
+words-same [] = refl
+words-same (r ∷ es) = ap₂ (λ (c : ℕ) (l : List ℕ). stateOf (r .mark) ∷ c ∷ l) (packed-same 8 (r .cover)) (words-same es)
+
+-- ---- the entries of the run
+
+module _ (C : Case) (sound : Sound C) where
+  coded-place : (p : Place) → Coded p → SmallPlace p
+  coded-place outside h = tt
+  coded-place (station i) h = h
+  coded-place (track j) h = h
+  coded-place gone h = tt
+
+  entry-small : (r : Entry) → Bounded C (r .mark) → Sets C (r .cover) → SmallEntry (length (C .trains)) r
+  entry-small r b s = record {
+    mark = record {
+      train = omega (arith, bounded-train C sound (r .mark) b);
+      place = coded-place (r .mark .place) (bounded-coded C sound (r .mark) b);
+      minute = bounded-minute C sound (r .mark) b;
+    };
+    cover = record {
+      few = omega (arith, sound .few-trains);
+      per-train = s .per-train;
+      sets = λ k l. record { few = λ d h. omega (arith, s .of-table k d l h, sound .few-pairs k l); once = λ d. s .once k d l };
+    };
+  }
+
+  entries-small : (es : List Entry) → Every (λ r. Bounded C (r .mark)) es → Every (λ r. Sets C (r .cover)) es
+      → (i : ℕ) (r : Entry) → i < length es → SmallEntry (length (C .trains)) (getD es i r)
+  entries-small [] b s i r h = absurd (omega arith)
+  entries-small (a ∷ es) b s zero r h = entry-small a (b .0) (s .0)
+  entries-small (a ∷ es) b s (suc i) r h = entries-small es (b .1) (s .1) i r (omega arith)
+
+  module _ (bytes : ByteDelays C) (m : ℕ) (within : m ≤ C .head .lastMinute) where
+    list-small : (i : ℕ) (r : Entry) → i < length (joint C m .list) → SmallEntry (length (C .trains)) (getD (joint C m .list) i r)
+    list-small =
+        entries-small (joint C m .list)
+        (subst (λ (s : State Entry). Every (λ r. Bounded C (r .mark)) (s .list)) (sym (joint-passes C sound m)) (joint-bounded C sound bytes m within))
+        (joint-sets C sound m .0)
+
+    -- what the run in code answers, with its rows at the start of the lent list
+    run-came : {w end r : ℕ} (rows list rest ws : List ℕ) → joints.Answer C m w rows ws → list ≡ rows ++ rest → length rows ≡ end → end ≤ 2050 → length ws ≡ 5760
+        → (w ≡ end → r ≡ 1025) → ((w ≡ end → ⊥) → r ≡ w / 2) → Came C m r list ws
+    run-came {w} {end} {r} rows list rest ws a e n few long full fits =
+        go (passes (C .head .room) (firstList C) || any (λ n. passes (C .head .room) (joint C n .list)) (below (suc m))) (met-minutes C sound m)
+      where
+        go : (b : Bool) → joint C m .met ≡ cond b 12 0 → Came C m r list ws
+        go true q = over q (full (omega (arith, a .refusal (omega arith))))
+        go false q =
+            let less : w < length rows = a .less q in
+            let count : w ≡ length (joint C m .list) * 2 = a .count q in
+            let half : r ≡ w / 2 = fits (λ z. omega arith) in
+            stands q (omega arith) (omega (arith, list-fits C sound m q m (omega arith), sound .in-room))
+            (record {
+              words =
+                  ap (λ (l : List ℕ). take (length (joint C m .list) * 2) l) e
+                  ∙ ap (λ (i : ℕ). take i (rows ++ rest)) (sym count)
+                  ∙ take-append-le w rows rest (omega arith)
+                  ∙ a .list q
+                  ∙ words-same (joint C m .list);
+              small = list-small;
+            })
+            (record { long = omega arith; words = λ k t i j. a .weight q k t (omega arith) j })
+
+-- ---- the run of accepted files
+
+module _ (cs bk : List ℕ) (m : ℕ) {s : Sizes} (b : Begins cs bk m s) (tb : List ℕ) (looked : tb ≡ tables (b .of)) where
+  begun-sound : Sound (b .of)
+  begun-sound = accepted-sound cs bk (b .of) (b .accepted)
+
+  pub room-few : getD tb 3 0 ≤ 1024
+  room-few = omega (arith, ap (λ (l : List ℕ). getD l 3 0) looked, table-room (b .of), begun-sound .in-room)
+
+  pub stop-few : m < 720
+  stop-few = omega (arith, b .within, begun-sound .in-window)
+
+  pub small-tables : Bytes cs → Bytes bk → Small tb
+  small-tables p q = subst Small (sym looked) (tables-small (b .of) begun-sound (byte-delays cs bk (b .of) p q (b .accepted)))
+
+  pub run-ran : Bytes cs → Bytes bk → {n w end r : ℕ} (rows rest ws : List ℕ) → joints.Answers tb m n w rows ws → n ≡ 5760 → length rows ≡ end → end ≤ 2050 → length ws ≡ 5760
+      → (w ≡ end → r ≡ 1025) → ((w ≡ end → ⊥) → r ≡ w / 2) → (C : Case) → files cs bk ≡ answer C → Ran C m r (rows ++ rest) ws tb
+  run-ran p q {n} {w} {end} {r} rows rest ws a size len few long full fits C e =
+      let same : b .of ≡ C = cc (sym (b .accepted) ∙ e) in
+      let bytes = byte-delays cs bk (b .of) p q (b .accepted) in
+      subst (λ (D : Case). Ran D m r (rows ++ rest) ws tb) same
+      (record {
+        looked = looked;
+        came = run-came (b .of) begun-sound bytes m (b .within) rows (rows ++ rest) rest ws (a (b .of) begun-sound bytes looked (b .within) size) refl len few long full fits;
+      })

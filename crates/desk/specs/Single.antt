@@ -1,0 +1,130 @@
+-- The single run: refused with its files and arguments, or the minute that its words give. It goes by the cases of the files and of the arguments.
+-- Assumes nothing.
+use mathlib.Core.Path.{_≡_, refl, sym, ap, _∙_, subst}
+use mathlib.Core.Bool.{Bool, true, false}
+use mathlib.Core.List.{List, [], _∷_}
+use mathlib.Core.Option.{Option, none, some}
+use Prim.Native.Nat.{ℕ, suc, _≤_, _<_}
+use native.Mathlib.Omega.{arith}
+use lib.ListN.{length, getD}
+use lib.Dec.{leb}
+use borrow.Author.Tests.{leb-false}
+use Rattle.rules.specs.Refusals.{Refusal, Rule, _when_, Result, then}
+use Rattle.rules.specs.Refusals.Fault.{wrongChoice, noTrain}
+use Rattle.rules.specs.Refusals.Result.{refused, answer}
+use Rattle.rules.specs.Files.{Pair, Case, files}
+use Rattle.rules.specs.Single.{pairAt, arrival}
+use Rattle.rules.specs.Calls.{choiceBroken, noSuchTrain, singleRun}
+use Rattle.sound.specs.Facts.{Every, Sound}
+use Rattle.sound.specs.Accepted.{accepted-sound}
+use Rattle.codes.specs.Tables.{tables}
+use Rattle.passes.specs.Bounds.{ByteDelays}
+use Rattle.lookup.specs.declared.Sizes.{Sizes}
+use Rattle.lookup.specs.declared.Files.{Files}
+use Rattle.lookup.specs.declared.Files.the-variants as told
+use Rattle.lookup.specs.Answers.{sizesOf, filesOf}
+use Rattle.arguments.specs.Arguments.{forSingle}
+use Rattle.plan.specs.Small.{Bytes, files-small}
+use Rattle.single.specs.Words.{Small}
+use Rattle.single.specs.Runs.{minuteNumber, Arrives}
+use Rattle.single.specs.Low.{tables-small, tables-last}
+use Rattle.desk.specs.declared.Answer.{Answer}
+use Rattle.desk.specs.Answers.{refusedWith, answered, minuteAnswer, singleAnswer}
+use Rattle.desk.specs.Steps.{Fits, filesAnswer, Tells}
+use Rattle.desk.specs.Laws.{arguments-then, Judged, refused-files, argument-fits}
+use Rattle.desk.specs.Laws.Judged.{stopped, goes}
+
+-- ---- bytes
+
+every-by : {A : Type 0} (P : A → Type 0) (d : A) (l : List A) → ((k : ℕ) → P (getD l k d)) → Every P l
+every-by P d [] h = tt
+every-by P d (a ∷ l) h = (h 0, every-by P d l (λ k. h (suc k)))
+
+-- the delays of an accepted case of bytes are bytes
+pub byte-delays : (cs bk : List ℕ) (C : Case) → Bytes cs → Bytes bk → files cs bk ≡ answer C → ByteDelays C
+byte-delays cs bk C p q e =
+    let h = files-small cs bk C p q e in
+    every-by (Every (λ p. p .delay ≤ 255)) [] (C .tables)
+    (λ k. every-by (λ p. p .delay ≤ 255) (record { delay = 0; weight = 0 }) (getD (C .tables) k []) (λ d. h .delays k d))
+
+-- ---- the single run
+
+-- the choice is one of the case, and the train too
+pub record Chosen (x : List ℕ) (k : ℕ) (C : Case) : Type 0 where
+  pub choice : choiceBroken C x ≡ false
+  pub known : k < length (C .trains)
+
+module _ (cs bk x : List ℕ) (k : ℕ) where
+  single-run : then (forSingle cs bk x k) (λ D. answer (arrival D x k)) ≡ singleRun cs bk x k
+  unfolding forSingle singleRun
+  single-run = arguments-then (λ C. wrongChoice when choiceBroken C x ∷ noTrain when noSuchTrain C k ∷ []) (λ D. answer (arrival D x k)) (files cs bk)
+
+  single-judged : Judged cs bk (Chosen x k) (forSingle cs bk x k)
+  unfolding forSingle noSuchTrain
+  single-judged = go (files cs bk) refl
+    where
+      none : (C : Case) → files cs bk ≡ answer C → choiceBroken C x ≡ false → (b : Bool) → leb (length (C .trains)) k ≡ b → Judged cs bk (Chosen x k) (forSingle cs bk x k)
+      none C e p true h = stopped (record { number = 16; file = 0; place = 0 }) (argument-fits cs bk 16 (omega arith) (omega arith)) (rw (e, p, h))
+      none C e p false h = goes C e (record { choice = p; known = leb-false (length (C .trains)) k h }) (rw (e, p, h))
+
+      wrong : (C : Case) → files cs bk ≡ answer C → (b : Bool) → choiceBroken C x ≡ b → Judged cs bk (Chosen x k) (forSingle cs bk x k)
+      wrong C e true h = stopped (record { number = 15; file = 0; place = 0 }) (argument-fits cs bk 15 (omega arith) (omega arith)) (rw (e, h))
+      wrong C e false h = none C e h (leb (length (C .trains)) k) refl
+
+      go : (R : Result Case) → files cs bk ≡ R → Judged cs bk (Chosen x k) (forSingle cs bk x k)
+      go (refused r) e = refused-files cs bk r e (rw e)
+      go (answer C) e = wrong C e (choiceBroken C x) refl
+
+  module _ {f : Files} (e : f ≡ filesOf (forSingle cs bk x k)) where
+    pub single-tells : Tells f
+    single-tells = go single-judged
+      where
+        go : Judged cs bk (Chosen x k) (forSingle cs bk x k) → Tells f
+        go (stopped r h q) = subst Tells (sym (e ∙ ap filesOf q)) h
+        go (goes C h c q) = subst Tells (sym (e ∙ ap filesOf q)) tt
+
+    pub single-refused : {n i p : ℕ} {a : Answer} → f ≡ told.Unsound n i p → a ≡ filesAnswer f → a ≡ singleAnswer (singleRun cs bk x k)
+    single-refused {a = a} u w = go single-judged
+      where
+        go : Judged cs bk (Chosen x k) (forSingle cs bk x k) → a ≡ singleAnswer (singleRun cs bk x k)
+        go (stopped r h q) =
+            w ∙ ap filesAnswer (e ∙ ap filesOf q) ∙ ap (λ (R : Result Case). singleAnswer (then R (λ D. answer (arrival D x k)))) (sym q) ∙ ap singleAnswer single-run
+        go (goes C h c q) = let s = sym u ∙ e ∙ ap filesOf q in let z : _≡_ {A = ℕ} 0 1 = cc s in absurd (omega arith)
+
+    -- the case that the run is of
+    pub record Ready (s : Sizes) : Type 0 where
+      pub of : Case
+      pub accepted : files cs bk ≡ answer of
+      pub sizes : s ≡ sizesOf of
+      pub chosen : Chosen x k of
+      pub told-as : forSingle cs bk x k ≡ answer of
+
+    pub single-ready : {s : Sizes} → f ≡ told.Sound s → Ready s
+    single-ready {s} u = go single-judged
+      where
+        go : Judged cs bk (Chosen x k) (forSingle cs bk x k) → Ready s
+        go (stopped r h q) = let t = sym u ∙ e ∙ ap filesOf q in let z : _≡_ {A = ℕ} 0 1 = cc t in absurd (omega arith)
+        go (goes C h c q) = let t = sym u ∙ e ∙ ap filesOf q in record { of = C; accepted = h; sizes = cc t; chosen = c; told-as = q }
+
+    module _ {s : Sizes} (ready : Ready s) (tb : List ℕ) (looked : tb ≡ tables (ready .of)) where
+      -- what the single run on words asks of its tables
+      pub single-small : Bytes cs → Bytes bk → Small tb × (k < 4294967296) × (getD tb 1 0 < 65535)
+      single-small p q =
+          let sound : Sound (ready .of) = accepted-sound cs bk (ready .of) (ready .accepted) in
+          let bytes : ByteDelays (ready .of) = byte-delays cs bk (ready .of) p q (ready .accepted) in (
+            λ i. subst (λ (l : List ℕ). getD l i 0 < 4294967296) (sym looked) (tables-small (ready .of) sound bytes i),
+            omega (arith, ready .chosen .known, sound .few-trains),
+            subst (λ (l : List ℕ). getD l 1 0 < 65535) (sym looked) (tables-last (ready .of) sound bytes),
+          )
+
+      pub single-answered : {r : ℕ} {a : Answer} → Arrives tb x k r → a ≡ answered r → a ≡ singleAnswer (singleRun cs bk x k)
+      single-answered h w =
+          w
+          ∙ ap answered (h (ready .of) (accepted-sound cs bk (ready .of) (ready .accepted)) looked (ready .chosen .choice) (ready .chosen .known))
+          ∙ ap answered (minute (arrival (ready .of) x k))
+          ∙ ap (λ (R : Result Case). singleAnswer (then R (λ D. answer (arrival D x k)))) (sym (ready .told-as))
+          ∙ ap singleAnswer single-run
+        where
+          minute : (o : Option ℕ) → minuteNumber o ≡ minuteAnswer o
+          minute none = refl
+          minute (some t) = refl
