@@ -47,7 +47,7 @@ module _ {A : Type 0} (asked : ℕ) (value : Run → A) (text : Run → List ℕ
   call-short : short asked m ≡ true → call asked value text m U ≡ record { result = refuse 14 0 0; memory = m }
   call-short h = rw (h, call)
 
-  call-long : short asked m ≡ false → call asked value text m U ≡ lent asked value text m U
+  pub call-long : short asked m ≡ false → call asked value text m U ≡ lent asked value text m U
   call-long h = rw (h, call)
 
 module _ {A : Type 0} (asked : ℕ) (value : Run → A) (text : Run → List ℕ) (m : Memory) where
