@@ -2,8 +2,8 @@
 -- is made of its arrivals. Each law goes by the cases of the files and of the run. Assumes nothing.
 use mathlib.Core.Path.{_≡_, refl, sym, ap, _∙_, subst}
 use mathlib.Core.Bool.{Bool, true, false}
-use mathlib.Core.List.{List, [], _∷_, _++_, append-assoc, append-nil}
-use Prim.Native.Nat.{ℕ, zero, suc, _+_, _-_, _*_, _^_, _≤_, _<_}
+use mathlib.Core.List.{List, [], _++_, append-assoc, append-nil}
+use Prim.Native.Nat.{ℕ, zero, suc, _+_, _-_, _^_, _≤_, _<_}
 use native.Mathlib.Omega.{arith}
 use lib.ListN.{length, getD, take, drop, replicate, drop-of-length-le}
 use lib.Seq.{length-take-le}
@@ -13,7 +13,7 @@ use Rattle.rules.specs.Refusals.{Refusal, Result, then, unless}
 use Rattle.rules.specs.Refusals.Result.{refused, answer}
 use Rattle.rules.specs.Files.{Head, Case, files}
 use Rattle.rules.specs.Turns.{State}
-use Rattle.rules.specs.Joint.{Entry, joint, total, weightAt}
+use Rattle.rules.specs.Joint.{Entry, joint, total}
 use Rattle.rules.specs.Listing.{listing}
 use Rattle.rules.specs.Figures as rules
 use Rattle.rules.specs.Calls.{Run, runTo, noSuchTrain, wholeRun, trainRun, filled, textOf}
@@ -21,7 +21,7 @@ use Rattle.sound.specs.Facts.{Sound}
 use Rattle.sound.specs.Accepted.{accepted-sound}
 use Rattle.codes.specs.Tables.{tables}
 use Rattle.images.specs.Rows.{Weighed}
-use Rattle.listing.specs.Text.{Weighs, Listed, Prints}
+use Rattle.listing.specs.Text.{Listed, Prints}
 use Rattle.listing.specs.Suffices.{listing-suffices}
 use Rattle.demands.specs.Demands.{seen}
 use Rattle.figures.specs.Sums as figures

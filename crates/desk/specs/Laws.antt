@@ -1,28 +1,28 @@
 -- The steps of a call, one after the other: what the files and arguments come to, the run after them, and the call that they make up.
 -- Each law goes by the cases of a result. Assumes nothing.
 use mathlib.Core.Path.{_≡_, refl, sym, ap, _∙_, subst}
-use mathlib.Core.Bool.{Bool, true, false, _||_}
+use mathlib.Core.Bool.{Bool, true, false}
 use mathlib.Core.List.{List, [], _∷_}
-use Prim.Native.Nat.{ℕ, zero, suc, _+_, _≤_, _<_}
+use Prim.Native.Nat.{ℕ, zero, suc, _≤_}
 use native.Mathlib.Omega.{arith}
-use lib.ListN.{length, getD}
+use lib.ListN.{length}
 use lib.Dec.{leb, ltb}
-use borrow.Author.Tests.{lt-ltb, le-ltb, ltb-true, ltb-false, leb-true, leb-false}
+use borrow.Author.Tests.{ltb-false}
 use Rattle.rules.specs.Refusals.{Refusal, Rule, _when_, verdict, Result, refuse, then, unless}
 use Rattle.rules.specs.Refusals.Fault.{noTrain, stopTooLate}
 use Rattle.rules.specs.Refusals.Result.{refused, answer}
 use Rattle.rules.specs.Files.{Head, Case, files, word}
 use Rattle.rules.specs.Turns.{State}
-use Rattle.rules.specs.Joint.{Entry, joint}
+use Rattle.rules.specs.Joint.{joint}
 use Rattle.rules.specs.Calls.{afterArguments, Run, runTo, noSuchTrain, stoppedRun, wholeRun, trainRun, filled}
 use Rattle.sound.specs.Places.{Told, files-told}
 use Rattle.lookup.specs.declared.Sizes.{Sizes}
 use Rattle.lookup.specs.declared.Files.{Files}
 use Rattle.lookup.specs.declared.Files.the-variants.{Sound, Unsound}
-use Rattle.lookup.specs.Answers.{sizesOf, filesOf}
+use Rattle.lookup.specs.Answers.{filesOf}
 use Rattle.arguments.specs.Arguments.{forTrain, forStop}
 use Rattle.arguments.specs.Laws.{minute-agrees}
-use Rattle.images.specs.Rows.{Held, Weighed}
+use Rattle.images.specs.Rows.{Held}
 use Rattle.desk.specs.declared.Answer.{Answer}
 use Rattle.desk.specs.Answers.{refusedWith, answered, answerOf}
 use Rattle.desk.specs.Steps.{Fits, Begins, Start, runOf, filesAnswer, Tells, Came, Ran, Filled, entries, rowsAfter, weightsAfter, InWords, Laid}

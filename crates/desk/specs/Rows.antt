@@ -5,7 +5,7 @@ use mathlib.Core.Bool.{Bool, true, false, cond, _||_}
 use mathlib.Core.List.{List, [], _∷_, _++_, map}
 use Prim.Native.Nat.{ℕ, zero, suc, _+_, _*_, _/_, _≤_, _<_}
 use native.Mathlib.Omega.{arith}
-use lib.ListN.{length, getD, take, drop}
+use lib.ListN.{length, getD, take}
 use lib.Seq.{take-append-le}
 use Rattle.rules.specs.Lists.{each, any, below}
 use Rattle.rules.specs.Files.{Head, Case, files}
@@ -17,7 +17,6 @@ use Rattle.simulation.specs.Lists.{Every}
 use Rattle.simulation.specs.Simulation.{Sets, joint-sets}
 use Rattle.weights.specs.Longest.{passes}
 use Rattle.weights.specs.Room.{met-minutes, list-fits}
-use Rattle.passes.specs.Passes.{jointPasses}
 use Rattle.passes.specs.Joint.{joint-passes}
 use Rattle.passes.specs.Bounds.{ByteDelays, Bounded, bounded-train, bounded-minute, joint-bounded}
 use Rattle.codes.specs.Codes.{stateOf}
@@ -26,8 +25,7 @@ use Rattle.rows.specs.Rows as rows
 use Rattle.joint.specs.Coded.{Coded, bounded-coded}
 use Rattle.joint.specs.Encoded as encoded
 use Rattle.joint.specs.Answer as joints
-use Rattle.images.specs.Rows.{packed, rowOf, SmallSet, SmallPlace, SmallMark, SmallCover, SmallEntry, Held, Weighed}
-use Rattle.rules.specs.Refusals.{Result}
+use Rattle.images.specs.Rows.{packed, rowOf, SmallSet, SmallPlace, SmallMark, SmallEntry}
 use Rattle.rules.specs.Refusals.Result.{answer}
 use Rattle.sound.specs.Accepted.{accepted-sound}
 use Rattle.codes.specs.Tables.{tables}

@@ -9,11 +9,11 @@ use native.Mathlib.Omega.{arith}
 use lib.ListN.{length, getD}
 use lib.Dec.{leb}
 use borrow.Author.Tests.{leb-false}
-use Rattle.rules.specs.Refusals.{Refusal, Rule, _when_, Result, then}
+use Rattle.rules.specs.Refusals.{Refusal, _when_, Result, then}
 use Rattle.rules.specs.Refusals.Fault.{wrongChoice, noTrain}
 use Rattle.rules.specs.Refusals.Result.{refused, answer}
 use Rattle.rules.specs.Files.{Pair, Case, files}
-use Rattle.rules.specs.Single.{pairAt, arrival}
+use Rattle.rules.specs.Single.{arrival}
 use Rattle.rules.specs.Calls.{choiceBroken, noSuchTrain, singleRun}
 use Rattle.sound.specs.Facts.{Every, Sound}
 use Rattle.sound.specs.Accepted.{accepted-sound}
@@ -29,8 +29,8 @@ use Rattle.single.specs.Words.{Small}
 use Rattle.single.specs.Runs.{minuteNumber, Arrives}
 use Rattle.single.specs.Low.{tables-small, tables-last}
 use Rattle.desk.specs.declared.Answer.{Answer}
-use Rattle.desk.specs.Answers.{refusedWith, answered, minuteAnswer, singleAnswer}
-use Rattle.desk.specs.Steps.{Fits, filesAnswer, Tells}
+use Rattle.desk.specs.Answers.{answered, minuteAnswer, singleAnswer}
+use Rattle.desk.specs.Steps.{filesAnswer, Tells}
 use Rattle.desk.specs.Laws.{arguments-then, Judged, refused-files, argument-fits}
 use Rattle.desk.specs.Laws.Judged.{stopped, goes}
 

@@ -1,6 +1,6 @@
 -- What the joint run asks of the tables of a sound case: words in range, and weights of which those of any set of delays are at most 100.
 -- The words of a train are looked up one by one; a part of a train's weights is at most their sum. Assumes nothing.
-use mathlib.Core.Path.{_≡_, refl, sym, ap, _∙_, subst}
+use mathlib.Core.Path.{_≡_, refl, ap, _∙_}
 use mathlib.Core.Bool.{Bool, true, false, cond}
 use mathlib.Core.List.{List, [], _∷_}
 use Prim.Native.Nat.{ℕ, zero, suc, _+_, _*_, _/_, _%_, _≤_, _<_}

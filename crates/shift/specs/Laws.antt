@@ -1,11 +1,11 @@
 -- The listing's call gives what the program prints: its text where it is answered, and where it is refused the refusal of which the line is written.
 -- It goes by the cases of the run over the whole window. Assumes nothing.
-use mathlib.Core.Path.{_≡_, refl, sym, ap, _∙_, subst}
+use mathlib.Core.Path.{_≡_, refl, sym, ap, _∙_}
 use mathlib.Core.List.{List, [], _∷_, _++_, append-assoc}
-use Prim.Native.Nat.{ℕ, zero, suc, _+_, _-_, min, _≤_, _<_}
+use Prim.Native.Nat.{ℕ, zero, suc, _+_, _-_, _≤_}
 use native.Mathlib.Omega.{arith}
 use lib.ListN.{length, take, drop, replicate, length-append}
-use lib.Seq.{sets, sets-eq, length-sets, take-at, length-take-le}
+use lib.Seq.{sets-eq, length-sets, take-at, length-take-le}
 use Rattle.rules.specs.Refusals.{Refusal, Result, then, unless}
 use Rattle.rules.specs.Refusals.Result.{refused, answer}
 use Rattle.rules.specs.Files.{Head, Case, files}
@@ -17,7 +17,7 @@ use Rattle.sound.specs.Places.{Told, files-told}
 use Rattle.images.specs.Writing.{Wrote}
 use Rattle.listing.specs.Suffices.{decimal-most}
 use Rattle.desk.specs.declared.Answer.{Answer}
-use Rattle.desk.specs.Answers.{refusedWith, answerOf, lentThree, GivesText}
+use Rattle.desk.specs.Answers.{answerOf, lentThree, GivesText}
 use Rattle.desk.specs.Ends.{long, call-long}
 use Rattle.shift.specs.Shift.{textFor, printed, Prints}
 

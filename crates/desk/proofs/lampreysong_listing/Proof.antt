@@ -1,6 +1,5 @@
 -- `desk::lampreysong_listing` meets its contract: memory too short, refused, or the listing of the run over the whole window. Assumes nothing.
 use mathlib.Core.Path.{sym, _∙_}
-use native.Mathlib.Omega.{arith}
 use Rattle.desk.specs.Laws.{whole-starts, whole-runs}
 use Rattle.desk.specs.Answered.{whole-answered, printable, printed-listing}
 use Rattle.desk.specs.Ends.{short-rows, short-weights, short-text, long, laid-stood, listing-short, listing-refused, listing-printed}
