@@ -54,10 +54,10 @@ inside-sets (more r f) (more t g) = more (common-delays r t) (inside-sets f g)
 
 -- ---- no common choice
 
-first-of : (r x : ℕ) → x < 256 → (r * 256 + x) % 256 ≡ x
+pub first-of : (r x : ℕ) → x < 256 → (r * 256 + x) % 256 ≡ x
 first-of r x h = omega arith
 
-rest-of : (r x : ℕ) → x < 256 → (r * 256 + x) / 256 ≡ r
+pub rest-of : (r x : ℕ) → x < 256 → (r * 256 + x) / 256 ≡ r
 rest-of r x h = omega arith
 
 pub full-packed : {b n : ℕ} {p : Cover} → Sets b n p → fullOf b (packedIn b p) ≡ not (apart p)
@@ -91,14 +91,14 @@ module _ (k pre C D y z : ℕ) (low : pre < 256 ^ k) (small : y < 256) where
       (and-block (8 * k) (C * 256 + y) 255 pre 0 l (omega arith)
       ∙ rw (and-mask (C * 256 + y) 8, first-of C y small, and-zero-r pre, power k) (omega arith))
 
-  outside-piece : outsideOf k (pre + 256 ^ k * (C * 256 + y)) (D * 256 + z) ≡ pre + 256 ^ k * ((C + D) * 256 + z)
+  pub outside-piece : outsideOf k (pre + 256 ^ k * (C * 256 + y)) (D * 256 + z) ≡ pre + 256 ^ k * ((C + D) * 256 + z)
   unfolding outsideOf
   outside-piece = rw byte-common (omega arith)
 
-  next-common : (X : ℕ) → pre + 256 ^ k * (X * 256 + y) ≡ pre + 256 ^ k * y + 256 ^ suc k * X
+  pub next-common : (X : ℕ) → pre + 256 ^ k * (X * 256 + y) ≡ pre + 256 ^ k * y + 256 ^ suc k * X
   next-common X = rw (pow-succ' 256 k) (omega arith)
 
-  next-low : pre + 256 ^ k * y < 256 ^ suc k
+  pub next-low : pre + 256 ^ k * y < 256 ^ suc k
   next-low = rw (pow-succ' 256 k) (omega (arith, mul-le-mul-left {m = suc y} {n = 256} (256 ^ k) small, mul-suc (256 ^ k) y))
 
 one-map : (t : Bool) (o : ℕ) (F : Cover → ℕ) (w : Cover) (A : List ℕ) (L : List Cover) → o ≡ F w → A ≡ map F L → one t o ++ A ≡ map F (one t w ++ L)

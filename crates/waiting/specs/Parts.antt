@@ -1,0 +1,211 @@
+-- Parts of a packed cover, and the outside pieces of a cut: each is a part of the piece, shares no choice with what the piece met, and has no empty set.
+-- The outside pieces are gone through byte by byte, train by train. Assumes nothing.
+use mathlib.Core.Path.{_≡_, refl, ap, ap₂, sym, _∙_}
+use mathlib.Core.Bool.{Bool, true, false, not, cond, false≢true}
+use mathlib.Core.List.{List, [], _∷_, _++_, map}
+use Prim.Native.Nat.{ℕ, zero, suc, _+_, _-_, _*_, _/_, _%_, _^_, min, _≤_, _<_}
+use native.Mathlib.Nat.{pow-succ'}
+use native.Mathlib.Omega.{arith}
+use borrow.Author.Tests.{eq-eqb, eqb-true, eqb-false}
+use lib.Bits.{bitAnd, and-step, and-self, and-comm, and-zero-l, and-le-l, and-le-r, and-mod, and-shr, and-block}
+use lib.Dec.{eqb}
+use lib.Pow.{high, low}
+use Rattle.rules.specs.Lists.{one}
+use Rattle.simulation.specs.Lists.{Every, every-append, every-map, every-one}
+use Rattle.cut.specs.Cut.{fullOf, outsideOf, outs}
+use Rattle.cut.specs.Covers.{first-of, rest-of, outside-piece, next-common, next-low}
+
+-- ---- bits in common
+
+half-and : (a b : ℕ) → bitAnd a b / 2 ≡ bitAnd (a / 2) (b / 2)
+half-and a b = omega (arith, and-step a b)
+
+low-and : (a b : ℕ) → bitAnd a b % 2 ≡ min (a % 2) (b % 2)
+low-and a b = omega (arith, and-step a b)
+
+assoc-by : (k a b c : ℕ) → a < 2 ^ k → bitAnd (bitAnd a b) c ≡ bitAnd a (bitAnd b c)
+assoc-by zero a b c h =
+    let z : a ≡ 0 = omega arith in
+    rw z (ap (λ (x : ℕ). bitAnd x c) (and-zero-l b) ∙ and-zero-l c ∙ sym (and-zero-l (bitAnd b c)))
+assoc-by (suc k) a b c h =
+    and-step (bitAnd a b) c
+    ∙ ap₂ (λ (x y : ℕ). bitAnd x (c / 2) * 2 + min y (c % 2)) (half-and a b) (low-and a b)
+    ∙ ap₂ (λ (x y : ℕ). x * 2 + y) (assoc-by k (a / 2) (b / 2) (c / 2) (omega (arith, pow-succ' 2 k))) (omega arith)
+    ∙ sym (and-step a (bitAnd b c) ∙ ap₂ (λ (x y : ℕ). bitAnd (a / 2) x * 2 + min (a % 2) y) (half-and b c) (low-and b c))
+
+and-assoc : (a b c : ℕ) → bitAnd (bitAnd a b) c ≡ bitAnd a (bitAnd b c)
+and-assoc a b c = assoc-by a a b c (below-power a)
+  where
+    below-power : (n : ℕ) → n < 2 ^ n
+    below-power zero = omega arith
+    below-power (suc n) = omega (arith, below-power n, pow-succ' 2 n)
+
+-- what a loses of b is in a, and not in b
+lost-bits : (k a b : ℕ) → a < 2 ^ k → (bitAnd (a - bitAnd a b) a ≡ a - bitAnd a b) × (bitAnd (a - bitAnd a b) b ≡ 0)
+lost-bits zero a b h =
+    let z : a ≡ 0 = omega arith in
+    let y : a - bitAnd a b ≡ 0 = omega arith in
+    (ap (λ (x : ℕ). bitAnd x a) y ∙ and-zero-l a ∙ sym y, ap (λ (x : ℕ). bitAnd x b) y ∙ and-zero-l b)
+lost-bits (suc k) a b h =
+    let ih = lost-bits k (a / 2) (b / 2) (omega (arith, pow-succ' 2 k)) in
+    let le : bitAnd (a / 2) (b / 2) ≤ a / 2 = and-le-l (a / 2) (b / 2) in
+    let d : (a - bitAnd a b) / 2 ≡ a / 2 - bitAnd (a / 2) (b / 2) = omega (arith, and-step a b, le) in
+    let e : (a - bitAnd a b) % 2 ≡ a % 2 - min (a % 2) (b % 2) = omega (arith, and-step a b, le) in
+    (and-step (a - bitAnd a b) a ∙ ap₂ (λ (x y : ℕ). bitAnd x (a / 2) * 2 + min y (a % 2)) d e ∙ ap (λ (x : ℕ). x * 2 + min (a % 2 - min (a % 2) (b % 2)) (a % 2)) (ih .0) ∙ omega (arith, and-step a b, le),
+     and-step (a - bitAnd a b) b ∙ ap₂ (λ (x y : ℕ). bitAnd x (b / 2) * 2 + min y (b % 2)) d e ∙ ap (λ (x : ℕ). x * 2 + min (a % 2 - min (a % 2) (b % 2)) (b % 2)) (ih .1) ∙ omega arith)
+
+-- ---- parts
+
+-- q is a part of p
+abbrev pub Sub : ℕ → ℕ → Type 0
+Sub q p = bitAnd q p ≡ q
+
+pub sub-trans : (q o p : ℕ) → Sub q o → Sub o p → Sub q p
+sub-trans q o p h k = ap (λ (x : ℕ). bitAnd x p) (sym h) ∙ and-assoc q o p ∙ ap (bitAnd q) k ∙ h
+
+pub sub-left : (p m : ℕ) → Sub (bitAnd p m) p
+sub-left p m = and-comm (bitAnd p m) p ∙ sym (and-assoc p p m) ∙ ap (λ (x : ℕ). bitAnd x m) (and-self p)
+
+pub sub-right : (p m : ℕ) → Sub (bitAnd p m) m
+sub-right p m = and-assoc p m m ∙ ap (bitAnd p) (and-self m)
+
+-- ---- sets that are not empty
+
+full-rest : (n v : ℕ) → fullOf (suc n) v ≡ true → (eqb (v % 256) 0 ≡ false) × (fullOf n (v / 256) ≡ true)
+unfolding fullOf
+full-rest n v h = go (eqb (v % 256) 0) refl h
+  where
+    go : (b : Bool) → eqb (v % 256) 0 ≡ b → cond b false (fullOf n (v / 256)) ≡ true → (eqb (v % 256) 0 ≡ false) × (fullOf n (v / 256) ≡ true)
+    go true e k = absurd (false≢true k)
+    go false e k = (e, k)
+
+cond-false : (b : Bool) → cond b false false ≡ false
+cond-false true = refl
+cond-false false = refl
+
+-- what is empty in v is empty in a part of v
+empty-and : (n q v : ℕ) → fullOf n v ≡ false → fullOf n (bitAnd q v) ≡ false
+unfolding fullOf
+empty-and zero q v h = h
+empty-and (suc n) q v h = rw (and-mod q v 8, and-shr q v 8) (go (eqb (v % 256) 0) refl (empty-and n (q / 256) (v / 256)) h)
+  where
+    go : (b : Bool) → eqb (v % 256) 0 ≡ b → (fullOf n (v / 256) ≡ false → fullOf n (bitAnd (q / 256) (v / 256)) ≡ false) → cond b false (fullOf n (v / 256)) ≡ false
+        → cond (eqb (bitAnd (q % 256) (v % 256)) 0) false (fullOf n (bitAnd (q / 256) (v / 256))) ≡ false
+    go true e ih l =
+        ap (λ (x : Bool). cond x false (fullOf n (bitAnd (q / 256) (v / 256))))
+        (eq-eqb (bitAnd (q % 256) (v % 256)) 0 (omega (arith, and-le-r (q % 256) (v % 256), eqb-true (v % 256) 0 e)))
+    go false e ih l = ap (λ (x : Bool). cond (eqb (bitAnd (q % 256) (v % 256)) 0) false x) (ih l) ∙ cond-false (eqb (bitAnd (q % 256) (v % 256)) 0)
+
+-- a part of what shares no choice with m shares none
+pub apart-part : (n q p m : ℕ) → Sub q p → fullOf n (bitAnd p m) ≡ false → fullOf n (bitAnd q m) ≡ false
+apart-part n q p m s h = ap (λ (x : ℕ). fullOf n (bitAnd x m)) (sym s) ∙ ap (fullOf n) (and-assoc q p m) ∙ empty-and n q (bitAnd p m) h
+
+-- ---- the outside pieces, train by train
+
+-- of n trains, by the piece p and what it met, m: the first train's, and those of the others with the first train's common set
+unfoldable outsideBy : ℕ → ℕ → ℕ → List ℕ
+outsideBy zero p m = []
+outsideBy (suc n) p m =
+    one (not (eqb (p % 256 - bitAnd (p % 256) (m % 256)) 0)) (p / 256 * 256 + (p % 256 - bitAnd (p % 256) (m % 256)))
+    ++ map (λ q. q * 256 + bitAnd (p % 256) (m % 256)) (outsideBy n (p / 256) (m / 256))
+
+one-map : (t : Bool) (o : ℕ) (F : ℕ → ℕ) (w : ℕ) (A L : List ℕ) → o ≡ F w → A ≡ map F L → one t o ++ A ≡ map F (one t w ++ L)
+one-map true o F w A L e g = rw (e, g)
+one-map false o F w A L e g = g
+
+map-after : (F G g : ℕ → ℕ) → ((q : ℕ) → F (g q) ≡ G q) → (L : List ℕ) → map G L ≡ map F (map g L)
+map-after F G g h [] = refl
+map-after F G g h (q ∷ L) = rw (h q, map-after F G g h L)
+
+outs-by : (n k pre p m : ℕ) → pre < 256 ^ k → outs n k (pre + 256 ^ k * bitAnd p m) (p - bitAnd p m) ≡ map (λ q. pre + 256 ^ k * q) (outsideBy n p m)
+unfolding outs outsideBy
+outs-by zero k pre p m low = refl
+outs-by (suc n) k pre p m low =
+    let P : ℕ = p / 256 in
+    let C : ℕ = bitAnd (p / 256) (m / 256) in
+    let x : ℕ = p % 256 in
+    let y : ℕ = bitAnd (p % 256) (m % 256) in
+    let yx : y ≤ x = and-le-l (p % 256) (m % 256) in
+    let CP : C ≤ P = and-le-l (p / 256) (m / 256) in
+    let e : bitAnd p m ≡ C * 256 + y = omega (arith, and-shr p m 8, and-mod p m 8) in
+    let d : p - bitAnd p m ≡ (P - C) * 256 + (x - y) = omega arith in
+    let whole : C + (P - C) ≡ P = omega arith in
+    rw (d, e, first-of (P - C) (x - y) (omega arith), rest-of (P - C) (x - y) (omega arith))
+    (one-map (not (eqb (x - y) 0)) _ (λ q. pre + 256 ^ k * q) (P * 256 + (x - y)) _ (map (λ q. q * 256 + y) (outsideBy n (p / 256) (m / 256)))
+    (outside-piece k pre C (P - C) y (x - y) low (omega arith) ∙ ap (λ (z : ℕ). pre + 256 ^ k * (z * 256 + (x - y))) whole)
+    (ap (λ (z : ℕ). outs n (suc k) z (P - C)) (next-common k pre C (P - C) y (x - y) low (omega arith) C)
+    ∙ outs-by n (suc k) (pre + 256 ^ k * y) (p / 256) (m / 256) (next-low k pre C (P - C) y (x - y) low (omega arith))
+    ∙ map-after (λ q. pre + 256 ^ k * q) (λ q. pre + 256 ^ k * y + 256 ^ suc k * q) (λ q. q * 256 + y)
+    (λ q. next-common k pre C (P - C) y (x - y) low (omega arith) q) (outsideBy n (p / 256) (m / 256))))
+
+outs-whole : (p m : ℕ) → outs 8 0 (bitAnd p m) (p - bitAnd p m) ≡ outsideBy 8 p m
+outs-whole p m =
+    ap (λ (c : ℕ). outs 8 0 c (p - bitAnd p m)) (sym (alone (bitAnd p m)))
+    ∙ outs-by 8 0 0 p m (omega arith) ∙ map-alone (outsideBy 8 p m)
+  where
+    alone : (x : ℕ) → 0 + 256 ^ 0 * x ≡ x
+    alone x = omega arith
+
+    map-alone : (L : List ℕ) → map (λ q. 0 + 256 ^ 0 * q) L ≡ L
+    map-alone [] = refl
+    map-alone (x ∷ L) = rw (alone x, map-alone L)
+
+-- ---- what an outside piece is
+
+pub record Outside (n p m o : ℕ) : Type 0 where
+  pub part : Sub o p
+  pub apart : fullOf n (bitAnd o m) ≡ false
+  pub full : fullOf n p ≡ true → fullOf n (bitAnd p m) ≡ true → fullOf n o ≡ true
+
+module _ (n p m : ℕ) where
+  abbrev a : ℕ
+  a = p % 256
+
+  abbrev b : ℕ
+  b = bitAnd (p % 256) (m % 256)
+
+  small : a < 256
+  small = omega arith
+
+  -- put together of its first set d and the others, q
+  part-put : (q d : ℕ) → d < 256 → Sub q (p / 256) → Sub d a → Sub (q * 256 + d) p
+  part-put q d l s r =
+      let split : p / 256 * 256 + a ≡ p = omega arith in
+      ap (bitAnd (q * 256 + d)) (sym split) ∙ and-block 8 q (p / 256) d a l small ∙ ap₂ (λ (x y : ℕ). x * 256 + y) s r
+
+  apart-put : (q d : ℕ) → d < 256 → cond (eqb (bitAnd d (m % 256)) 0) false (fullOf n (bitAnd q (m / 256))) ≡ false → fullOf (suc n) (bitAnd (q * 256 + d) m) ≡ false
+  unfolding fullOf
+  apart-put q d l w = rw (and-mod (q * 256 + d) m 8, and-shr (q * 256 + d) m 8, low q 8 l, high q 8 l) w
+
+  full-put : (q d : ℕ) → d < 256 → eqb d 0 ≡ false → fullOf n q ≡ true → fullOf (suc n) (q * 256 + d) ≡ true
+  unfolding fullOf
+  full-put q d l w f = rw (low q 8 l, high q 8 l, w) f
+
+  first-outside : eqb (a - b) 0 ≡ false → Outside (suc n) p m (p / 256 * 256 + (a - b))
+  first-outside t = record {
+    part = part-put (p / 256) (a - b) (omega arith) (and-self (p / 256)) (lost-bits 8 a (m % 256) small .0);
+    apart = apart-put (p / 256) (a - b) (omega arith) (ap (λ (x : Bool). cond x false (fullOf n (bitAnd (p / 256) (m / 256)))) (eq-eqb (bitAnd (a - b) (m % 256)) 0 (lost-bits 8 a (m % 256) small .1)));
+    full = λ f g. full-put (p / 256) (a - b) (omega arith) t (full-rest n p f .1);
+  }
+
+  later-outside : (q : ℕ) → Outside n (p / 256) (m / 256) q → Outside (suc n) p m (q * 256 + b)
+  later-outside q h = record {
+    part = part-put q b (omega (arith, and-le-l a (m % 256))) (h .part) (sub-left a (m % 256));
+    apart = apart-put q b (omega (arith, and-le-l a (m % 256))) (ap (λ (x : Bool). cond (eqb (bitAnd b (m % 256)) 0) false x) (h .apart) ∙ cond-false (eqb (bitAnd b (m % 256)) 0));
+    full = λ f g. full-put q b (omega (arith, and-le-l a (m % 256))) (ap (λ (x : ℕ). eqb x 0) (sym (and-mod p m 8)) ∙ full-rest n (bitAnd p m) g .0) (h .full (full-rest n p f .1) (ap (fullOf n) (sym (and-shr p m 8)) ∙ full-rest n (bitAnd p m) g .1));
+  }
+
+not-true : (t : Bool) → not t ≡ true → t ≡ false
+not-true true h = sym h
+not-true false h = refl
+
+outside-by : (n p m : ℕ) → Every (Outside n p m) (outsideBy n p m)
+unfolding outsideBy
+outside-by zero p m = tt
+outside-by (suc n) p m =
+    every-append (Outside (suc n) p m) (one (not (eqb (a n p m - b n p m) 0)) (p / 256 * 256 + (a n p m - b n p m))) (map (λ q. q * 256 + b n p m) (outsideBy n (p / 256) (m / 256)))
+    (every-one (Outside (suc n) p m) (not (eqb (a n p m - b n p m) 0)) (p / 256 * 256 + (a n p m - b n p m)) (λ t. first-outside n p m (not-true (eqb (a n p m - b n p m) 0) t)))
+    (every-map (Outside n (p / 256) (m / 256)) (Outside (suc n) p m) (λ q. q * 256 + b n p m) (later-outside n p m) (outsideBy n (p / 256) (m / 256)) (outside-by n (p / 256) (m / 256)))
+
+pub outside-pieces : (p m : ℕ) → Every (Outside 8 p m) (outs 8 0 (bitAnd p m) (p - bitAnd p m))
+outside-pieces p m = rw (outs-whole p m) (outside-by 8 p m)
