@@ -1,6 +1,6 @@
 -- One pass of a train for an element, on rows of two words and the words T that the runs look up. Assumes nothing: these are definitions.
 use mathlib.Core.Path.{_≡_}
-use mathlib.Core.Bool.{cond}
+use mathlib.Core.Bool.{Bool, cond}
 use mathlib.Core.List.{List, [], _∷_, _++_}
 use Prim.Native.Nat.{ℕ, _+_, _*_, min, _≤_, _<_}
 use lib.ListN.{length, take, getD}
@@ -14,13 +14,20 @@ use Rattle.serving.specs.declared.Ends.{Ends}
 
 -- ---- the pass
 
--- what becomes of a row in its place
-unfoldable pub holdRow : List ℕ → Job → List ℕ → Row → List Row
-holdRow T q es r = cond (askingOf T q r) (heldRows (r .state) (heldOf (carried (q .cap) es 0 (r .cover)))) (r ∷ [])
+-- what becomes of a row in its place, where the test says which rows are served
+abbrev pub holdBy : (Row → Bool) → ℕ → List ℕ → Row → List Row
+holdBy test cap es r = cond (test r) (heldRows (r .state) (heldOf (carried cap es 0 (r .cover)))) (r ∷ [])
 
 -- the covers of a row that enter
+abbrev pub enterBy : (Row → Bool) → ℕ → List ℕ → Row → List ℕ
+enterBy test cap es r = cond (test r) (enteringOf (carried cap es 0 (r .cover))) []
+
+-- the same where each row that asks is served
+unfoldable pub holdRow : List ℕ → Job → List ℕ → Row → List Row
+holdRow T q es r = holdBy (askingOf T q) (q .cap) es r
+
 unfoldable pub enterRow : List ℕ → Job → List ℕ → Row → List ℕ
-enterRow T q es r = cond (askingOf T q r) (enteringOf (carried (q .cap) es 0 (r .cover))) []
+enterRow T q es r = enterBy (askingOf T q) (q .cap) es r
 
 -- all covers that enter
 unfoldable pub coversOf : List ℕ → Job → List Row → List ℕ

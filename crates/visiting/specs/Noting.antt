@@ -17,6 +17,7 @@ use Rattle.rows.specs.Stamps.{Has, stamp-own, stamp-keeps, idle-none}
 use Rattle.asking.specs.declared.Job.{Job}
 use Rattle.weigh.specs.Weigh.{Small}
 use Rattle.asking.specs.Ask.{dueOf, nextOf, asksOf, askingOf, metFor, jobOf, Within}
+use Rattle.asking.specs.Asking.{Asking, asking}
 use Rattle.serving.specs.Pass.{holdRow, coversOf, passedOf}
 use Rattle.visiting.specs.Visit.{pairSpot, elementSpot, notedOf, Stamped, AllStamped}
 
@@ -63,22 +64,6 @@ noted-more T want t i rows long h =
     (noted-all T want t (getD rows (i * 2) 0) (rowsIn i rows) h) (noted-own T want t (getD rows (i * 2) 0), tt))
 
 -- ---- nobody asks
-
--- what a state that asks shows
-pub record Asking (T : List ℕ) (t e k s : ℕ) : Type 0 where
-  pub train : s / 524288 ≡ k
-  pub due : dueOf t s ≡ true
-  pub next : nextOf T s ≡ e
-
-pub asking : (T : List ℕ) (t e k s : ℕ) → asksOf T t e k s ≡ true → Asking T t e k s
-unfolding asksOf
-asking T t e k s h = go (eqb (s / 524288) k) (dueOf t s) (eqb (nextOf T s) e) refl refl refl h
-  where
-    go : (x y z : Bool) → eqb (s / 524288) k ≡ x → dueOf t s ≡ y → eqb (nextOf T s) e ≡ z → cond x (cond y z false) false ≡ true → Asking T t e k s
-    go true true true f g j q = record { train = eqb-true (s / 524288) k f; due = g; next = eqb-true (nextOf T s) e j }
-    go true true false f g j q = absurd (false≢true q)
-    go true false z f g j q = absurd (false≢true q)
-    go false y z f g j q = absurd (false≢true q)
 
 module _ (T want : List ℕ) (t e k s : ℕ) (st : Stamped T want t s) where
   by-cases : (asksOf T t e k s ≡ true → ⊥) → asksOf T t e k s ≡ false

@@ -1,3 +1,5 @@
 pub mod Parts
 pub mod Quiet
 pub mod Like
+pub mod Calm
+pub mod Stirred

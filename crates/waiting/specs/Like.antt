@@ -35,7 +35,7 @@ pub data Change (p e k : ℕ) (r : Row) : List Row → Type 0 where
       → Every (λ x. (x .state ≡ r .state) × Sub (x .cover) (r .cover)) l → Change p e k r l
 
 -- a part of a cover that shares no choice with p shares none
-part-apart : (p c d : ℕ) → Sub d c → fullOf 8 (bitAnd p c) ≡ false → fullOf 8 (bitAnd p d) ≡ false
+pub part-apart : (p c d : ℕ) → Sub d c → fullOf 8 (bitAnd p c) ≡ false → fullOf 8 (bitAnd p d) ≡ false
 part-apart p c d s h = ap (fullOf 8) (and-comm p d) ∙ apart-part 8 d c p s (ap (fullOf 8) (and-comm c p) ∙ h)
 
 module _ (p e k : ℕ) where

@@ -1,0 +1,374 @@
+-- A pass that serves only the rows that were stirred is the pass: the others are quiet, so they would be held as they are and bring nothing in.
+-- After it, after a sweep and in the next minute the rows are calm again, if the pairs that it concerns are told. Assumes nothing.
+use mathlib.Core.Path.{_≡_, refl, ap, ap₂, sym, _∙_, subst}
+use mathlib.Core.Bool.{Bool, true, false, not, cond, false≢true}
+use mathlib.Core.List.{List, [], _∷_, _++_, map, append-nil}
+use Prim.Native.Nat.{ℕ, _+_, _-_, _*_, _/_, _%_, _≤_, _<_}
+use native.Mathlib.Omega.{arith}
+use borrow.Author.Tests.{eq-eqb, eqb-true, eqb-false, ltb-true, ltb-false, lt-ltb, le-ltb}
+use lib.ListN.{getD}
+use lib.Bits.{bitAnd}
+use lib.Dec.{eqb, ltb}
+use Rattle.rules.specs.Lists.{one, each, keep}
+use Rattle.simulation.specs.Lists.{Every, each-self, each-every, every-append, every-each, every-more, every-map, every-one, every-keep}
+use Rattle.cut.specs.Cut.{Part, part, fullOf, carried, heldOf, enteringOf}
+use Rattle.rows.specs.Rows.{Row, row, metOf, endedOf, sweptOf, heldRows, enteredRows}
+use Rattle.asking.specs.declared.Job.{Job}
+use Rattle.asking.specs.Ask.{dueOf, nextOf, capOf, asksOf, metFor, askingOf}
+use Rattle.asking.specs.Asking.{Asking, asking}
+use Rattle.serving.specs.Pass.{holdBy, enterBy, holdRow, enterRow, coversOf, passedOf}
+use Rattle.waiting.specs.Parts.{Sub, sub-trans}
+use Rattle.waiting.specs.Quiet.{Quiet, quiet-held, Piece, pieces}
+use Rattle.waiting.specs.Like.{part-apart}
+use Rattle.waiting.specs.Calm.{waitsOf, spot, spotOf, metAt, Still, Settled, Calm, Told, Moved, still-next, settled-next}
+use Rattle.waiting.specs.Calm.Still.{stirred, quiet}
+use Rattle.waiting.specs.Calm.Told.{nobody, told}
+use Rattle.waiting.specs.Calm.Moved.{stays, goes}
+
+-- ---- the definitions
+
+-- a row that asks and shares a choice with u
+unfoldable pub stirredOf : List ℕ → Job → ℕ → Row → Bool
+stirredOf T q u r = cond (askingOf T q r) (fullOf 8 (bitAnd (r .cover) u)) false
+
+-- the covers that enter and the rows after the pass, where only those rows are served
+unfoldable pub stirredCovers : List ℕ → Job → ℕ → List Row → List ℕ
+stirredCovers T q u l = each (enterBy (stirredOf T q u) (q .cap) (metFor q l)) l
+
+unfoldable pub stirredPass : List ℕ → Job → ℕ → List Row → List Row
+stirredPass T q u l = each (holdBy (stirredOf T q u) (q .cap) (metFor q l)) l ++ enteredRows (q .stands) (q .blocks) (q .two) (stirredCovers T q u l)
+
+-- ---- due, and waiting
+
+pub due-waits : (t s : ℕ) → dueOf t s ≡ waitsOf (t + 1) s
+unfolding dueOf waitsOf
+due-waits t s = ap (λ (b : Bool). cond (eqb (s / 2048 % 2) 1) false b) (go (ltb t (s % 2048)) refl)
+  where
+    go : (b : Bool) → ltb t (s % 2048) ≡ b → not b ≡ ltb (s % 2048) (t + 1)
+    go true h = sym (le-ltb (s % 2048) (t + 1) (omega (arith, ltb-true t (s % 2048) h)))
+    go false h = sym (lt-ltb (s % 2048) (t + 1) (omega (arith, ltb-false t (s % 2048) h)))
+
+-- ---- the pass
+
+module _ (T : List ℕ) (q : Job) (stir asked : ℕ → ℕ) (l : List Row) (cap : q .cap ≡ capOf T (q .place)) where
+  abbrev u : ℕ
+  u = stir (spot (q .train) (q .place))
+
+  abbrev es : List ℕ
+  es = metFor q l
+
+  abbrev n : ℕ
+  n = q .minute + 1
+
+  -- what a row that asks shows
+  shows : (r : Row) → askingOf T q r ≡ true → Asking T (q .minute) (q .place) (q .train) (r .state)
+  shows r h = asking T (q .minute) (q .place) (q .train) (r .state) h
+
+  shows-spot : (r : Row) → askingOf T q r ≡ true → spotOf T (r .state) ≡ spot (q .train) (q .place)
+  shows-spot r h = ap₂ spot (shows r h .train) (shows r h .next)
+
+  shows-waits : (r : Row) → askingOf T q r ≡ true → waitsOf n (r .state) ≡ true
+  shows-waits r h = sym (due-waits (q .minute) (r .state)) ∙ shows r h .due
+
+  -- what the asker's train meets is what the job's train meets
+  shows-met : (r : Row) → askingOf T q r ≡ true → metAt (nextOf T (r .state)) (r .state / 524288) l ≡ es
+  unfolding metAt metFor
+  shows-met r h = ap₂ (λ (e k : ℕ). cond (ltb e 64) (metOf e k l) []) (shows r h .next) (shows r h .train)
+
+  shows-cap : (r : Row) → askingOf T q r ≡ true → capOf T (nextOf T (r .state)) ≡ q .cap
+  shows-cap r h = ap (capOf T) (shows r h .next) ∙ sym cap
+
+  -- a row that asks and was not stirred is held as it is
+  held-still : (r : Row) → Settled T n stir asked l r → askingOf T q r ≡ true → fullOf 8 (bitAnd (r .cover) u) ≡ false → carried (q .cap) es 0 (r .cover) ≡ part (r .cover) true ∷ []
+  held-still r h a f = go (h .still (shows-waits r a))
+    where
+      go : Still T stir l (r .state) (r .cover) → carried (q .cap) es 0 (r .cover) ≡ part (r .cover) true ∷ []
+      go (stirred x) = absurd (false≢true (sym f ∙ ap (λ (i : ℕ). fullOf 8 (bitAnd (r .cover) (stir i))) (sym (shows-spot r a)) ∙ x))
+      go (quiet x) = quiet-held (q .cap) 0 (q .cap) (r .cover) es (h .full) (omega arith) (rw (shows-cap r a, shows-met r a) at x)
+
+  same-hold : (r : Row) → Settled T n stir asked l r → holdRow T q es r ≡ holdBy (stirredOf T q u) (q .cap) es r
+  unfolding holdRow stirredOf heldRows
+  same-hold r h = go (askingOf T q r) (fullOf 8 (bitAnd (r .cover) u)) refl refl
+    where
+      go : (a f : Bool) → askingOf T q r ≡ a → fullOf 8 (bitAnd (r .cover) u) ≡ f
+          → cond a (heldRows (r .state) (heldOf (carried (q .cap) es 0 (r .cover)))) (r ∷ []) ≡ cond (cond a f false) (heldRows (r .state) (heldOf (carried (q .cap) es 0 (r .cover)))) (r ∷ [])
+      go true true x y = refl
+      go true false x y = ap (λ (p : List Part). heldRows (r .state) (heldOf p)) (held-still r h x y)
+      go false f x y = refl
+
+  same-enter : (r : Row) → Settled T n stir asked l r → enterRow T q es r ≡ enterBy (stirredOf T q u) (q .cap) es r
+  unfolding enterRow stirredOf
+  same-enter r h = go (askingOf T q r) (fullOf 8 (bitAnd (r .cover) u)) refl refl
+    where
+      go : (a f : Bool) → askingOf T q r ≡ a → fullOf 8 (bitAnd (r .cover) u) ≡ f
+          → cond a (enteringOf (carried (q .cap) es 0 (r .cover))) [] ≡ cond (cond a f false) (enteringOf (carried (q .cap) es 0 (r .cover))) []
+      go true true x y = refl
+      go true false x y = ap enteringOf (held-still r h x y)
+      go false f x y = refl
+
+  pub covers-stirred : Calm T n stir asked l → coversOf T q l ≡ stirredCovers T q u l
+  unfolding coversOf stirredCovers
+  covers-stirred h = each-every (Settled T n stir asked l) (enterRow T q es) (enterBy (stirredOf T q u) (q .cap) es) same-enter l h
+
+  pub passed-stirred : Calm T n stir asked l → passedOf T q l ≡ stirredPass T q u l
+  unfolding passedOf stirredPass
+  passed-stirred h =
+      ap₂ (λ (a : List Row) (b : List ℕ). a ++ enteredRows (q .stands) (q .blocks) (q .two) b)
+      (each-every (Settled T n stir asked l) (holdRow T q es) (holdBy (stirredOf T q u) (q .cap) es) same-hold l h)
+      (covers-stirred h)
+
+-- ---- calm after the pass
+
+-- what is told after a pass: the words of the other pairs only grow, those of the place that was left have all that moved, and so has the pair that the
+-- train now waits for, if it is due at once
+pub record Spread (T : List ℕ) (q : Job) (stir asked : ℕ → ℕ) (from moved : ℕ) (stir′ asked′ : ℕ → ℕ) : Type 0 where
+  pub grown : (i : ℕ) → (i ≡ spot (q .train) (q .place) → ⊥) → Sub (stir i) (stir′ i)
+  pub more : (i : ℕ) → asked′ i ≡ 0 → asked i ≡ 0
+  pub left : (k : ℕ) → k < 8 → (k ≡ q .train → ⊥) → Told stir′ asked′ (spot k from) moved
+  pub fresh : waitsOf (q .minute + 1) (q .stands) ≡ true → (asked′ (spotOf T (q .stands)) ≡ 0 → ⊥) × Sub moved (stir′ (spotOf T (q .stands)))
+
+-- a row that is as it was, and of which nothing enters; or it is among all that moved
+pub data Went (hold : List Row) (enter : List ℕ) (moved : ℕ) (r : Row) : Type 0 where
+  as-it-is : hold ≡ r ∷ [] → enter ≡ [] → Went hold enter moved r
+  moves : Sub (r .cover) moved → Went hold enter moved r
+
+-- what the pass is known to be: its train and states are of a train below eight, its block is none that waits, its askers stand at one place, and the codes
+-- of the next elements fit their places
+pub record Ready (T : List ℕ) (q : Job) (from : ℕ) : Type 0 where
+  pub cap : q .cap ≡ capOf T (q .place)
+  pub place : q .place < 128
+  pub stands : q .stands / 524288 < 8
+  pub blocks : q .blocks / 524288 < 8
+  pub block : waitsOf (q .minute + 1) (q .blocks) ≡ false
+  pub nexts : (s : ℕ) → s / 524288 < 8 → nextOf T s < 128
+  pub one-place : (s : ℕ) → asksOf T (q .minute) (q .place) (q .train) s ≡ true → s / 4096 % 128 ≡ from
+
+module _ (cap : ℕ) (met : List ℕ) (p : ℕ) (f : fullOf 8 p ≡ true) where
+  pieces-held : (ps : List Part) → Every (Piece cap 0 met p) ps → Every (λ c. (fullOf 8 c ≡ true) × Sub c p × Quiet c cap met) (heldOf ps)
+  pieces-held [] h = tt
+  pieces-held (x ∷ ps) h = go (x .held) refl (pieces-held ps (h .1))
+    where
+      go : (b : Bool) → x .held ≡ b → Every (λ c. (fullOf 8 c ≡ true) × Sub c p × Quiet c cap met) (heldOf ps)
+          → Every (λ c. (fullOf 8 c ≡ true) × Sub c p × Quiet c cap met) (map (λ y. y .cover) (one b x ++ keep (λ y. y .held) ps))
+      go true e k = let z : cap - 0 ≡ cap = omega arith in ((h .0 .full f, h .0 .within, subst (λ (i : ℕ). Quiet (x .cover) i met) z (h .0 .quiet e)), k)
+      go false e k = k
+
+  pieces-entering : (ps : List Part) → Every (Piece cap 0 met p) ps → Every (λ c. (fullOf 8 c ≡ true) × Sub c p) (enteringOf ps)
+  pieces-entering [] h = tt
+  pieces-entering (x ∷ ps) h = go (not (x .held)) (pieces-entering ps (h .1))
+    where
+      go : (b : Bool) → Every (λ c. (fullOf 8 c ≡ true) × Sub c p) (enteringOf ps)
+          → Every (λ c. (fullOf 8 c ≡ true) × Sub c p) (map (λ y. y .cover) (one b x ++ keep (λ y. not (y .held)) ps))
+      go true k = ((h .0 .full f, h .0 .within), k)
+      go false k = k
+
+module _ (T : List ℕ) (q : Job) (stir asked stir′ asked′ : ℕ → ℕ) (l : List Row) (from moved : ℕ) (ready : Ready T q from)
+    (spread : Spread T q stir asked from moved stir′ asked′) where
+  abbrev own : ℕ
+  own = stir (spot (q .train) (q .place))
+
+  abbrev met : List ℕ
+  met = metFor q l
+
+  abbrev hold : Row → List Row
+  hold = holdBy (stirredOf T q own) (q .cap) met
+
+  abbrev enter : Row → List ℕ
+  enter = enterBy (stirredOf T q own) (q .cap) met
+
+  abbrev new : List Row
+  new = enteredRows (q .stands) (q .blocks) (q .two) (stirredCovers T q own l)
+
+  -- the row after the pass
+  abbrev After : Row → Type 0
+  After r = Settled T (q .minute + 1) stir′ asked′ (each hold l ++ new) r
+
+  abbrev Before : Row → Type 0
+  Before r = Settled T (q .minute + 1) stir asked l r
+
+  -- a row that is stirred asks
+  stirred-asks : (r : Row) → stirredOf T q own r ≡ true → askingOf T q r ≡ true
+  unfolding stirredOf
+  stirred-asks r h = go (askingOf T q r) h
+    where
+      go : (b : Bool) → cond b (fullOf 8 (bitAnd (r .cover) own)) false ≡ true → b ≡ true
+      go true k = refl
+      go false k = k
+
+  -- the parts of a row that is served
+  parts : (r : Row) → Before r → Every (λ c. (fullOf 8 c ≡ true) × Sub c (r .cover) × Quiet c (q .cap) met) (heldOf (carried (q .cap) met 0 (r .cover)))
+  parts r h = pieces-held (q .cap) met (r .cover) (h .full) (carried (q .cap) met 0 (r .cover)) (pieces (q .cap) met 0 (r .cover))
+
+  told-of : (r : Row) → askingOf T q r ≡ true → Sub (r .cover) moved → (k : ℕ) → k < 8 → (r .state / 524288 ≡ k → ⊥) → Told stir′ asked′ (spot k (r .state / 4096 % 128)) (r .cover)
+  told-of r a s k small other = rw (ready .one-place (r .state) a) (go (spread .left k small (λ z. other (shows T q stir asked l (ready .cap) r a .train ∙ sym z))))
+    where
+      go : Told stir′ asked′ (spot k from) moved → Told stir′ asked′ (spot k from) (r .cover)
+      go (nobody z) = nobody z
+      go (told z) = told (sub-trans (r .cover) moved (stir′ (spot k from)) s z)
+
+  moved-of : (r : Row) → Before r → Went (hold r) (enter r) moved r → Moved stir′ asked′ r (hold r)
+  unfolding heldRows
+  moved-of r h (as-it-is e z) = rw e stays
+  moved-of r h (moves s) = go (stirredOf T q own r) refl
+    where
+      go : (b : Bool) → stirredOf T q own r ≡ b → Moved stir′ asked′ r (cond b (heldRows (r .state) (heldOf (carried (q .cap) met 0 (r .cover)))) (r ∷ []))
+      go true e = goes
+          (every-map (λ c. (fullOf 8 c ≡ true) × Sub c (r .cover) × Quiet c (q .cap) met) (λ x. (x .state ≡ r .state) × Sub (x .cover) (r .cover)) (λ c. row (r .state) c) (λ c k. (refl, k .1)) (heldOf (carried (q .cap) met 0 (r .cover))) (parts r h))
+          (told-of r (stirred-asks r e) s)
+      go false e = stays
+
+  all-moved : Calm T (q .minute + 1) stir asked l → Every (λ r. Went (hold r) (enter r) moved r) l → Every (λ r. Moved stir′ asked′ r (hold r)) l
+  all-moved h w = both l h w
+    where
+      both : (rs : List Row) → Every Before rs → Every (λ r. Went (hold r) (enter r) moved r) rs → Every (λ r. Moved stir′ asked′ r (hold r)) rs
+      both [] a b = tt
+      both (r ∷ rs) a b = (moved-of r (a .0) (b .0), both rs (a .1) (b .1))
+
+  -- a row that waits for another pair
+  other-pair : (r : Row) → Before r → askingOf T q r ≡ false → waitsOf (q .minute + 1) (r .state) ≡ true → spotOf T (r .state) ≡ spot (q .train) (q .place) → ⊥
+  unfolding asksOf
+  other-pair r h a w z =
+      let small : nextOf T (r .state) < 128 = ready .nexts (r .state) (h .train) in
+      let train : r .state / 524288 ≡ q .train = omega (arith, ready .place, small, z) in
+      let next : nextOf T (r .state) ≡ q .place = omega (arith, ready .place, small, z) in
+      false≢true (sym (rw (eq-eqb (r .state / 524288) (q .train) train, due-waits (q .minute) (r .state), w, eq-eqb (nextOf T (r .state)) (q .place) next) at a))
+
+  module _ (calm : Calm T (q .minute + 1) stir asked l) (went : Every (λ r. Went (hold r) (enter r) moved r) l) where
+    -- a row of the asked pair that is quiet
+    settled-own : (s c : ℕ) → s / 524288 < 8 → fullOf 8 c ≡ true → asksOf T (q .minute) (q .place) (q .train) s ≡ true → (asked (spotOf T s) ≡ 0 → ⊥) → Quiet c (q .cap) met → After (row s c)
+    settled-own s c small full a some h = record {
+      full = full;
+      train = small;
+      known = λ w z. some (spread .more (spotOf T s) z);
+      still = λ w. still-next T stir′ asked′ hold new l (all-moved calm went) s c small full (λ z. some (spread .more (spotOf T s) z))
+          (rw (shows-cap T q stir asked l (ready .cap) (row s c) a, shows-met T q stir asked l (ready .cap) (row s c) a) h);
+    }
+
+    settled-held : (r : Row) → Before r → Every After (hold r)
+    unfolding heldRows stirredOf
+    settled-held r h = go (askingOf T q r) (fullOf 8 (bitAnd (r .cover) own)) refl refl
+      where
+        some : askingOf T q r ≡ true → asked (spotOf T (r .state)) ≡ 0 → ⊥
+        some a z = h .known (shows-waits T q stir asked l (ready .cap) r a) z
+
+        go : (a f : Bool) → askingOf T q r ≡ a → fullOf 8 (bitAnd (r .cover) own) ≡ f
+            → Every After (cond (cond a f false) (heldRows (r .state) (heldOf (carried (q .cap) met 0 (r .cover)))) (r ∷ []))
+        go true true x y =
+            every-map (λ c. (fullOf 8 c ≡ true) × Sub c (r .cover) × Quiet c (q .cap) met) After (λ c. row (r .state) c)
+            (λ c k. settled-own (r .state) c (h .train) (k .0) x (some x) (k .2)) (heldOf (carried (q .cap) met 0 (r .cover))) (parts r h)
+        go true false x y = (settled-own (r .state) (r .cover) (h .train) (h .full) x (some x) (quiet-of (h .still (shows-waits T q stir asked l (ready .cap) r x))), tt)
+          where
+            quiet-of : Still T stir l (r .state) (r .cover) → Quiet (r .cover) (q .cap) met
+            quiet-of (stirred z) = absurd (false≢true (sym y ∙ ap (λ (i : ℕ). fullOf 8 (bitAnd (r .cover) (stir i))) (sym (shows-spot T q stir asked l (ready .cap) r x)) ∙ z))
+            quiet-of (quiet z) = rw (shows-cap T q stir asked l (ready .cap) r x, shows-met T q stir asked l (ready .cap) r x) at z
+        go false f x y =
+            (settled-next T stir′ asked′ hold new l (all-moved calm went) (q .minute + 1) stir asked r (λ w. spread .grown (spotOf T (r .state)) (other-pair r h x w)) (spread .more (spotOf T (r .state))) h, tt)
+
+    -- the covers that enter are among what moved
+    entering-moved : (r : Row) → Before r → Went (hold r) (enter r) moved r → Every (λ c. (fullOf 8 c ≡ true) × Sub c moved) (enter r)
+    entering-moved r h (as-it-is e z) = rw z tt
+    entering-moved r h (moves s) = go (stirredOf T q own r)
+      where
+        go : (b : Bool) → Every (λ c. (fullOf 8 c ≡ true) × Sub c moved) (cond b (enteringOf (carried (q .cap) met 0 (r .cover))) [])
+        go true =
+            every-more (λ c. (fullOf 8 c ≡ true) × Sub c (r .cover)) (λ c. (fullOf 8 c ≡ true) × Sub c moved) (λ c k. (k .0, sub-trans c (r .cover) moved (k .1) s))
+            (enteringOf (carried (q .cap) met 0 (r .cover)))
+            (pieces-entering (q .cap) met (r .cover) (h .full) (carried (q .cap) met 0 (r .cover)) (pieces (q .cap) met 0 (r .cover)))
+        go false = tt
+
+    all-entering : Every (λ c. (fullOf 8 c ≡ true) × Sub c moved) (stirredCovers T q own l)
+    unfolding stirredCovers
+    all-entering = both l calm went
+      where
+        both : (rs : List Row) → Every Before rs → Every (λ r. Went (hold r) (enter r) moved r) rs → Every (λ c. (fullOf 8 c ≡ true) × Sub c moved) (each enter rs)
+        both [] a b = tt
+        both (r ∷ rs) a b =
+            every-append (λ c. (fullOf 8 c ≡ true) × Sub c moved) (enter r) (each enter rs) (entering-moved r (a .0) (b .0)) (both rs (a .1) (b .1))
+
+    settled-new : (c : ℕ) → (fullOf 8 c ≡ true) × Sub c moved → After (row (q .stands) c)
+    settled-new c k = record {
+      full = k .0;
+      train = ready .stands;
+      known = λ w. spread .fresh w .0;
+      still = λ w. stirred (ap (fullOf 8) (sub-trans c moved (stir′ (spotOf T (q .stands))) (k .1) (spread .fresh w .1)) ∙ k .0);
+    }
+
+    settled-block : (c : ℕ) → fullOf 8 c ≡ true → After (row (q .blocks) c)
+    settled-block c k = record {
+      full = k;
+      train = ready .blocks;
+      known = λ w. absurd (false≢true (sym (ready .block) ∙ w));
+      still = λ w. absurd (false≢true (sym (ready .block) ∙ w));
+    }
+
+    settled-entered : Every After new
+    unfolding enteredRows
+    settled-entered =
+        every-each (λ c. (fullOf 8 c ≡ true) × Sub c moved) After (λ c. row (q .stands) c ∷ one (q .two) (row (q .blocks) c))
+        (λ c k. (settled-new c k, every-one After (q .two) (row (q .blocks) c) (λ b. settled-block c (k .0)))) (stirredCovers T q own l) all-entering
+
+    pub calm-passed : Calm T (q .minute + 1) stir′ asked′ (stirredPass T q own l)
+    unfolding stirredPass
+    calm-passed = every-append After (each hold l) new (every-each Before After hold settled-held l calm) settled-entered
+
+-- ---- calm after a sweep
+
+module _ (T : List ℕ) (n t : ℕ) (stir asked stir′ asked′ : ℕ → ℕ) (l : List Row) (grown : (i : ℕ) → Sub (stir i) (stir′ i)) (more : (i : ℕ) → asked′ i ≡ 0 → asked i ≡ 0) where
+  -- the pairs of all trains with the place of a block that goes are told
+  abbrev Cleared : Row → Type 0
+  Cleared r = endedOf t (r .state) ≡ true → (k : ℕ) → k < 8 → Told stir′ asked′ (spot k (r .state / 4096 % 128)) (r .cover)
+
+  cleared-moved : (r : Row) → Cleared r → Moved stir′ asked′ r (one (not (endedOf t (r .state))) r)
+  cleared-moved r h = go (endedOf t (r .state)) refl
+    where
+      go : (b : Bool) → endedOf t (r .state) ≡ b → Moved stir′ asked′ r (one (not b) r)
+      go true e = goes tt (λ k small other. h e k small)
+      go false e = stays
+
+  pub calm-swept : Calm T n stir asked l → Every Cleared l → Calm T n stir′ asked′ (sweptOf t l)
+  unfolding sweptOf
+  calm-swept h c =
+      let gone : Row → List Row = λ r. one (not (endedOf t (r .state))) r in
+      let kept : List Row = each gone l in
+      subst (λ (x : List Row). Every (Settled T n stir′ asked′ x) kept) (append-nil kept)
+      (every-each (Settled T n stir asked l) (Settled T n stir′ asked′ (kept ++ [])) gone
+      (λ r k. every-one (Settled T n stir′ asked′ (kept ++ [])) (not (endedOf t (r .state))) r
+      (λ b. settled-next T stir′ asked′ gone [] l (every-more Cleared (λ x. Moved stir′ asked′ x (gone x)) cleared-moved l c) n stir asked r (λ w. grown (spotOf T (r .state))) (more (spotOf T (r .state))) k)) l h)
+
+-- ---- calm in the next minute
+
+module _ (T : List ℕ) (n : ℕ) (stir asked stir′ asked′ : ℕ → ℕ) (l : List Row) (grown : (i : ℕ) → Sub (stir i) (stir′ i)) (more : (i : ℕ) → asked′ i ≡ 0 → asked i ≡ 0) where
+  -- the pair of a row that is due at n is told of it
+  abbrev Marked : Row → Type 0
+  Marked r = waitsOf n (r .state) ≡ false → waitsOf (n + 1) (r .state) ≡ true → (asked′ (spotOf T (r .state)) ≡ 0 → ⊥) × Sub (r .cover) (stir′ (spotOf T (r .state)))
+
+  all-stay : (rs : List Row) → Every (λ r. Moved stir′ asked′ r (r ∷ [])) rs
+  all-stay [] = tt
+  all-stay (r ∷ rs) = (stays, all-stay rs)
+
+  settled-later : (r : Row) → Settled T n stir asked l r → Marked r → Settled T (n + 1) stir′ asked′ l r
+  settled-later r h m =
+      let same : each (λ x. x ∷ []) l ++ [] ≡ l = append-nil (each (λ x. x ∷ []) l) ∙ each-self l in
+      let now : Settled T n stir′ asked′ l r = subst (λ (x : List Row). Settled T n stir′ asked′ x r) same
+      (settled-next T stir′ asked′ (λ x. x ∷ []) [] l (all-stay l) n stir asked r (λ w. grown (spotOf T (r .state))) (more (spotOf T (r .state))) h) in
+      record {
+        full = h .full;
+        train = h .train;
+        known = λ w. known-by (waitsOf n (r .state)) refl w now;
+        still = λ w. still-by (waitsOf n (r .state)) refl w now;
+      }
+    where
+      known-by : (b : Bool) → waitsOf n (r .state) ≡ b → waitsOf (n + 1) (r .state) ≡ true → Settled T n stir′ asked′ l r → asked′ (spotOf T (r .state)) ≡ 0 → ⊥
+      known-by true e w s = s .known e
+      known-by false e w s = m e w .0
+
+      still-by : (b : Bool) → waitsOf n (r .state) ≡ b → waitsOf (n + 1) (r .state) ≡ true → Settled T n stir′ asked′ l r → Still T stir′ l (r .state) (r .cover)
+      still-by true e w s = s .still e
+      still-by false e w s = stirred (ap (fullOf 8) (m e w .1) ∙ h .full)
+
+  pub calm-later : Calm T n stir asked l → Every Marked l → Calm T (n + 1) stir′ asked′ l
+  calm-later h m = both l h m
+    where
+      both : (rs : List Row) → Every (Settled T n stir asked l) rs → Every Marked rs → Every (Settled T (n + 1) stir′ asked′ l) rs
+      both [] a b = tt
+      both (r ∷ rs) a b = (settled-later r (a .0) (b .0), both rs (a .1) (b .1))
