@@ -16,10 +16,10 @@ use Rattle.simulation.specs.Lists.{Every, each-append, every-more}
 use Rattle.cut.specs.Cut.{fullOf}
 use Rattle.rows.specs.Rows.{Row, meetsOf, metOf}
 use Rattle.asking.specs.Ask.{nextOf, capOf}
-use Rattle.waiting.specs.Parts.{Sub}
-use Rattle.waiting.specs.Quiet.{Quiet, quiet-more}
-use Rattle.waiting.specs.Like.{quiet-like, Change, part-apart, like-rows}
-use Rattle.waiting.specs.Like.Change.{kept, cut}
+use Rattle.quiet.specs.Parts.{Sub}
+use Rattle.quiet.specs.Quiet.{Quiet, quiet-more}
+use Rattle.quiet.specs.Like.{quiet-like, Change, part-apart, like-rows}
+use Rattle.quiet.specs.Like.Change.{kept, cut}
 
 -- ---- the definitions
 

@@ -1,5 +1,2 @@
-pub mod Parts
-pub mod Quiet
-pub mod Like
 pub mod Calm
 pub mod Stirred

@@ -17,9 +17,9 @@ use Rattle.asking.specs.declared.Job.{Job}
 use Rattle.asking.specs.Ask.{dueOf, nextOf, capOf, asksOf, metFor, askingOf}
 use Rattle.asking.specs.Asking.{Asking, asking}
 use Rattle.serving.specs.Pass.{holdBy, enterBy, holdRow, enterRow, coversOf, passedOf}
-use Rattle.waiting.specs.Parts.{Sub, sub-trans}
-use Rattle.waiting.specs.Quiet.{Quiet, quiet-held, Piece, pieces}
-use Rattle.waiting.specs.Like.{part-apart}
+use Rattle.quiet.specs.Parts.{Sub, sub-trans}
+use Rattle.quiet.specs.Quiet.{Quiet, quiet-held, Piece, pieces}
+use Rattle.quiet.specs.Like.{part-apart}
 use Rattle.waiting.specs.Calm.{waitsOf, spot, spotOf, metAt, Still, Settled, Calm, Told, Moved, still-next, settled-next}
 use Rattle.waiting.specs.Calm.Still.{stirred, quiet}
 use Rattle.waiting.specs.Calm.Told.{nobody, told}

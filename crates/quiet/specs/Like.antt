@@ -9,9 +9,9 @@ use Rattle.rules.specs.Lists.{one, each}
 use Rattle.simulation.specs.Lists.{Every, each-append}
 use Rattle.cut.specs.Cut.{fullOf}
 use Rattle.rows.specs.Rows.{Row, meetsOf, metOf}
-use Rattle.waiting.specs.Parts.{Sub, apart-part}
-use Rattle.waiting.specs.Quiet.{Quiet}
-use Rattle.waiting.specs.Quiet.Quiet.{enough, apart, inside}
+use Rattle.quiet.specs.Parts.{Sub, apart-part}
+use Rattle.quiet.specs.Quiet.{Quiet}
+use Rattle.quiet.specs.Quiet.Quiet.{enough, apart, inside}
 
 pub data Like (p : ℕ) : List ℕ → List ℕ → Type 0 where
   none : Like p [] []

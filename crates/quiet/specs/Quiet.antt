@@ -14,7 +14,7 @@ use Rattle.rules.specs.Lists.{one, each, keep}
 use Rattle.simulation.specs.Lists.{Every, every-append, every-each, every-more, every-map}
 use Rattle.cut.specs.Cut.{Part, part, fullOf, outs, turn, carried, heldOf}
 use Rattle.cut.specs.Covers.{outs-nothing}
-use Rattle.waiting.specs.Parts.{Sub, sub-trans, sub-left, sub-right, apart-part, Outside, outside-pieces}
+use Rattle.quiet.specs.Parts.{Sub, sub-trans, sub-left, sub-right, apart-part, Outside, outside-pieces}
 
 -- what p has to do with the covers to meet, where so many more are needed
 pub data Quiet (p : ℕ) : ℕ → List ℕ → Type 0 where
