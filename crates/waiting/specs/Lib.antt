@@ -1,2 +1,4 @@
 pub mod Calm
 pub mod Stirred
+pub mod Notes
+pub mod Telling
