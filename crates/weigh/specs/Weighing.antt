@@ -11,7 +11,7 @@ use borrow.Author.Tests.{eq-eqb, ne-eqb}
 use Rattle.rules.specs.Lists.{sum}
 use Rattle.simulation.specs.Lists.{sum-append}
 use Rattle.rows.specs.Written.{take-more}
-use Rattle.weigh.specs.Weigh.{setWeight, coverWeight, weightOf, broughtOf}
+use Rattle.weigh.specs.Weigh.{setWeight, coverWeight, weightOf, broughtOf, Small}
 
 -- ---- a set
 
@@ -37,6 +37,10 @@ set-left T i (suc n) x h e =
     ap (λ (z : Bool). cond z (getD T i 0) 0 + setWeight T (suc i) n (x / 2)) (ne-eqb (x % 2) 1 e)
     ∙ zero-add (setWeight T (suc i) n (x / 2))
     ∙ ap₂ (λ (y z : ℕ). setWeight T y z (x / 2)) a b
+
+-- a set of a train weighs at most 100
+pub set-bound : (T : List ℕ) (j x : ℕ) {w : ℕ} → Small T → j < 8 → w ≡ setWeight T (112 + j * 8) 8 x → w ≤ 100
+set-bound T j x small h e = omega (arith, e, small .weights j x h)
 
 -- ---- a cover
 

@@ -7,7 +7,7 @@ use native.Mathlib.Omega.{arith}
 use native.Mathlib.Nat.{mul-one, one-mul}
 use lib.ListN.{getD}
 use Rattle.weigh.specs.Weigh.{coverWeight, weightOf}
-use Rattle.weigh.specs.Weighing.{cover-none, cover-more, product-more, product-fits}
+use Rattle.weigh.specs.Weighing.{set-bound, cover-none, cover-more, product-more, product-fits}
 use Rattle.weigh.proofs.cover_weight.Statement.{statement}
 use Rattle.weigh.proofs.cover_weight.Tie as tie
 use Rattle.weigh.proofs.cover_weight.Reads as reads
@@ -37,7 +37,7 @@ mul-product : tie.Need-mul-product Inv-loop μ-loop
 mul-product c =
     let s = c .before .before .before .before .before .args in
     let l = c .before .before .loop in
-    let w : c .set-weight .result ≤ 100 = omega (arith, c .set-weight .ensures, c .before .before .before .before .before .pre .weights (l .j) (l .left % 256) (omega (arith, c .before .before .before .before .before .pre .trains))) in
+    let w : c .set-weight .result ≤ 100 = set-bound (s .tables .now) (l .j) _ (c .before .before .before .before .before .pre) (omega (arith, c .before .before .before .before .before .pre .trains)) (c .set-weight .ensures) in
     omega (arith, product-fits (l .j + 1) (l .product * c .set-weight .result) (omega (arith, c .before .before .before .before .before .pre .trains)) (product-more (l .j) (l .product) (c .set-weight .result) (l .inv .3) w))
 
 add-j : tie.Need-add-j Inv-loop μ-loop
@@ -50,7 +50,7 @@ loop-again : tie.Need-loop-again Inv-loop μ-loop
 loop-again c =
     let s = c .before .before .before .before .before .args in
     let l = c .before .before .loop in
-    let w : c .set-weight .result ≤ 100 = omega (arith, c .set-weight .ensures, c .before .before .before .before .before .pre .weights (l .j) (l .left % 256) (omega (arith, c .before .before .before .before .before .pre .trains))) in
+    let w : c .set-weight .result ≤ 100 = set-bound (s .tables .now) (l .j) _ (c .before .before .before .before .before .pre) (omega (arith, c .before .before .before .before .before .pre .trains)) (c .set-weight .ensures) in
     let n : c .before .before .before .at .result - l .j - 1 ≡ c .before .before .before .at .result - (l .j + 1) = omega arith in (
       l .inv .0,
       omega arith,
