@@ -4,6 +4,8 @@ use mathlib.Core.List.{List, [], _∷_}
 use Prim.Native.Nat.{ℕ, _+_, _*_, _/_, _%_, _≤_, _<_}
 use lib.ListN.{getD}
 use lib.Dec.{ltb, eqb}
+use lib.Bits.{bitAnd}
+use Rattle.cut.specs.Cut.{fullOf}
 use Rattle.rows.specs.Rows.{Row, metOf}
 use Rattle.asking.specs.declared.Job.{Job}
 
@@ -50,6 +52,10 @@ metFor q rs = cond (ltb (q .place) 64) (metOf (q .place) (q .train) rs) []
 
 abbrev pub askingOf : List ℕ → Job → Row → Bool
 askingOf T q r = asksOf T (q .minute) (q .place) (q .train) (r .state)
+
+-- a row that asks and shares a choice with u
+unfoldable pub stirredOf : List ℕ → Job → ℕ → Row → Bool
+stirredOf T q u r = cond (askingOf T q r) (fullOf 8 (bitAnd (r .cover) u)) false
 
 -- ---- contracts
 

@@ -4,9 +4,9 @@ ghost use mathlib.Core.Bool.{true, false};
 ghost use Prim.Native.Nat.{_*_, _≤_, _<_};
 ghost use lib.ListN.{length, getD};
 ghost use Rattle.simulation.specs.Lists.{Every};
-ghost use Rattle.rows.specs.Rows.{rowsIn, Put};
+ghost use Rattle.rows.specs.Rows.{row, rowsIn, Put};
 ghost use Rattle.weigh.specs.Weigh.{Small};
-ghost use Rattle.asking.specs.Ask.{dueOf, asksOf, capOf, jobOf, metFor, Within};
+ghost use Rattle.asking.specs.Ask.{dueOf, asksOf, capOf, jobOf, metFor, stirredOf, Within};
 
 // What a pass is for: minute, element and train; the element's capacity; the state of what enters, that of the block it leaves, and whether it
 // leaves one.
@@ -99,4 +99,14 @@ pub fn meet(rows: &[u64], n: usize, q: Job, out: &mut [u64]) -> usize
         return rows::gather(rows, n, q.place, q.train, out);
     }
     0
+}
+
+// Whether the row of the state s and the cover c asks in the job's pass and shares a choice with u.
+pub fn stirs(tables: &[u64], s: u64, c: u64, u: u64, q: Job) -> bool
+    ensures { λ r. ⌜ r ≡ stirredOf (now (tables .entry)) q u (row s c) ⌝ }
+{
+    if !asks(tables, s, q.minute, q.place, q.train) {
+        return false;
+    }
+    cut::full(c & u)
 }

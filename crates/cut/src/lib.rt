@@ -18,7 +18,7 @@ pub struct Pieces {
 }
 
 // Whether no set of a packed cover is empty: each byte's low bits carry into its high bit unless they are all 0.
-fn full(v: u64) -> bool
+pub fn full(v: u64) -> bool
     ensures { λ r. ⌜ r ≡ fullOf 8 v ⌝ }
 {
     ((((v & LOW) + LOW) | v) & HIGH) == HIGH

@@ -3,11 +3,11 @@
 use mathlib.Core.Path.{_≡_, refl, ap, ap₂, sym, _∙_}
 use mathlib.Core.Bool.{Bool, true, false, not, cond, false≢true}
 use mathlib.Core.List.{List, [], _∷_, _++_, map}
-use Prim.Native.Nat.{ℕ, zero, suc, _+_, _-_, _*_, _/_, _%_, _^_, min, _≤_, _<_}
+use Prim.Native.Nat.{ℕ, zero, suc, _+_, _-_, _*_, _/_, _%_, _^_, min, max, _≤_, _<_}
 use native.Mathlib.Nat.{pow-succ'}
 use native.Mathlib.Omega.{arith}
 use borrow.Author.Tests.{eq-eqb, eqb-true, eqb-false}
-use lib.Bits.{bitAnd, and-step, and-self, and-comm, and-zero-l, and-le-l, and-le-r, and-mod, and-shr, and-block}
+use lib.Bits.{bitAnd, bitOr, and-step, or-step, or-comm, and-self, and-comm, and-zero-l, and-le-l, and-le-r, and-mod, and-shr, and-block}
 use lib.Dec.{eqb}
 use lib.Pow.{high, low}
 use Rattle.rules.specs.Lists.{one}
@@ -33,12 +33,12 @@ assoc-by (suc k) a b c h =
     ∙ ap₂ (λ (x y : ℕ). x * 2 + y) (assoc-by k (a / 2) (b / 2) (c / 2) (omega (arith, pow-succ' 2 k))) (omega arith)
     ∙ sym (and-step a (bitAnd b c) ∙ ap₂ (λ (x y : ℕ). bitAnd (a / 2) x * 2 + min (a % 2) y) (half-and b c) (low-and b c))
 
+below-power : (n : ℕ) → n < 2 ^ n
+below-power zero = omega arith
+below-power (suc n) = omega (arith, below-power n, pow-succ' 2 n)
+
 and-assoc : (a b c : ℕ) → bitAnd (bitAnd a b) c ≡ bitAnd a (bitAnd b c)
 and-assoc a b c = assoc-by a a b c (below-power a)
-  where
-    below-power : (n : ℕ) → n < 2 ^ n
-    below-power zero = omega arith
-    below-power (suc n) = omega (arith, below-power n, pow-succ' 2 n)
 
 -- what a loses of b is in a, and not in b
 lost-bits : (k a b : ℕ) → a < 2 ^ k → (bitAnd (a - bitAnd a b) a ≡ a - bitAnd a b) × (bitAnd (a - bitAnd a b) b ≡ 0)
@@ -68,6 +68,24 @@ sub-left p m = and-comm (bitAnd p m) p ∙ sym (and-assoc p p m) ∙ ap (λ (x :
 
 pub sub-right : (p m : ℕ) → Sub (bitAnd p m) m
 sub-right p m = and-assoc p m m ∙ ap (bitAnd p) (and-self m)
+
+sub-or-by : (k a b : ℕ) → a < 2 ^ k → bitAnd a (bitOr a b) ≡ a
+sub-or-by zero a b h =
+    let z : a ≡ 0 = omega arith in
+    rw z (and-zero-l (bitOr 0 b))
+sub-or-by (suc k) a b h =
+    let half : bitOr a b / 2 ≡ bitOr (a / 2) (b / 2) = omega (arith, or-step a b) in
+    let low : bitOr a b % 2 ≡ max (a % 2) (b % 2) = omega (arith, or-step a b) in
+    and-step a (bitOr a b)
+    ∙ ap₂ (λ (x y : ℕ). bitAnd (a / 2) x * 2 + min (a % 2) y) half low
+    ∙ ap (λ (x : ℕ). x * 2 + min (a % 2) (max (a % 2) (b % 2))) (sub-or-by k (a / 2) (b / 2) (omega (arith, pow-succ' 2 k)))
+    ∙ omega arith
+
+pub sub-or-left : (a b : ℕ) → Sub a (bitOr a b)
+sub-or-left a b = sub-or-by a a b (below-power a)
+
+pub sub-or-right : (a b : ℕ) → Sub b (bitOr a b)
+sub-or-right a b = ap (bitAnd b) (or-comm a b) ∙ sub-or-left b a
 
 -- ---- sets that are not empty
 

@@ -8,8 +8,9 @@ use lib.Seq.{sets}
 use Rattle.rules.specs.Lists.{each}
 use Rattle.cut.specs.Cut.{carried, heldOf, enteringOf}
 use Rattle.rows.specs.Rows.{Row, words, Put, heldRows, enteredRows}
+use Rattle.quiet.specs.Parts.{Sub}
 use Rattle.asking.specs.declared.Job.{Job}
-use Rattle.asking.specs.Ask.{metFor, askingOf}
+use Rattle.asking.specs.Ask.{metFor, askingOf, stirredOf}
 use Rattle.serving.specs.declared.Ends.{Ends}
 
 -- ---- the pass
@@ -37,7 +38,30 @@ coversOf T q rs = each (enterRow T q (metFor q rs)) rs
 unfoldable pub passedOf : List ℕ → Job → List Row → List Row
 passedOf T q rs = each (holdRow T q (metFor q rs)) rs ++ enteredRows (q .stands) (q .blocks) (q .two) (coversOf T q rs)
 
+-- the same where only rows that share a choice with u are served
+abbrev pub holdStirred : List ℕ → Job → ℕ → List ℕ → Row → List Row
+holdStirred T q u es r = holdBy (stirredOf T q u) (q .cap) es r
+
+abbrev pub enterStirred : List ℕ → Job → ℕ → List ℕ → Row → List ℕ
+enterStirred T q u es r = enterBy (stirredOf T q u) (q .cap) es r
+
+unfoldable pub stirredCovers : List ℕ → Job → ℕ → List Row → List ℕ
+stirredCovers T q u l = each (enterStirred T q u (metFor q l)) l
+
+unfoldable pub stirredPass : List ℕ → Job → ℕ → List Row → List Row
+stirredPass T q u l = each (holdStirred T q u (metFor q l)) l ++ enteredRows (q .stands) (q .blocks) (q .two) (stirredCovers T q u l)
+
 -- ---- contracts
+
+-- the cover c whose held pieces are hs, of which so many entered: it is held as it is, or among all that moved
+pub data Stays (hs : List ℕ) (entered c moved : ℕ) : Type 0 where
+  whole : hs ≡ c ∷ [] → entered ≡ 0 → Stays hs entered c moved
+  moved-on : Sub c moved → Stays hs entered c moved
+
+-- a row that is as it was, and of which nothing enters; or its cover is among all that moved
+pub data Went (hold : List Row) (enter : List ℕ) (moved : ℕ) (r : Row) : Type 0 where
+  as-it-is : hold ≡ r ∷ [] → enter ≡ [] → Went hold enter moved r
+  moves : Sub (r .cover) moved → Went hold enter moved r
 
 -- the covers A are written from the place a on, and z is the next place
 pub record Came (entering : List ℕ) (a : ℕ) (A : List ℕ) (z : ℕ) (entering′ : List ℕ) : Type 0 where

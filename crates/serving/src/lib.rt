@@ -2,18 +2,35 @@
 ghost use mathlib.Core.Path.{_≡_};
 ghost use mathlib.Core.Bool.{false};
 ghost use Prim.Native.Nat.{_*_, _/_, _≤_, _<_};
-ghost use lib.ListN.{length};
+ghost use lib.ListN.{length, take};
 ghost use Rattle.rules.specs.Lists.{each};
 ghost use Rattle.simulation.specs.Lists.{Every};
 ghost use Rattle.cut.specs.Cut.{carried, heldOf, enteringOf};
 ghost use Rattle.rows.specs.Rows.{row, words, rowsIn, heldRows};
-ghost use Rattle.asking.specs.Ask.{askingOf};
-ghost use Rattle.serving.specs.Pass.{holdRow, enterRow, coversOf, passedOf, Two, Passed, Lent};
+ghost use Rattle.quiet.specs.Parts.{Sub};
+ghost use Rattle.asking.specs.Ask.{metFor, askingOf};
+ghost use Rattle.serving.specs.Pass.{holdStirred, enterStirred, stirredCovers, stirredPass, Stays, Went, Two, Passed, Lent};
 
-// The place after the last word of the rows, and how many covers have entered.
+// The place after the last word of the rows, how many covers have entered, and all that moved: the covers of the rows that were cut or entered.
 pub struct Ends {
     pub place: usize,
     pub entering: usize,
+    pub moved: u64,
+}
+
+// All that moved, where m moved before: with the cover c, unless its only piece is held and is c itself.
+pub fn moved_with(held: &[u64], h: usize, entered: usize, c: u64, m: u64) -> u64
+    requires { ⌜ h ≤ length (now held) ⌝ }
+    ensures { λ r. ⌜ Sub m r × Stays (take h (now (held .entry))) entered c r ⌝ }
+{
+    if h == 1 {
+        if entered == 0 {
+            if held[0] == c {
+                return m;
+            }
+        }
+    }
+    m | c
 }
 
 // A row that asks: its held pieces are written as rows of its state, and those that enter are put to the others.
@@ -24,12 +41,14 @@ pub fn serve(
     rows: &mut [u64],
     d: usize,
     a: usize,
+    m: u64,
     s: u64,
     c: u64,
     q: asking::Job,
 ) -> Ends
     requires { ⌜ (2 ≤ length (now rows)) × (length (now rows) / 2 * 2 ≡ length (now rows)) × (length (now rows) ≤ length (now held) * 2) × (length (now rows) ≤ length (now entering) * 2) × (d ≤ length (now rows)) × (a * 2 ≤ length (now rows)) ⌝ }
     ensures { λ r. ⌜ Two (now (rows .entry)) d (words (heldRows s (heldOf (carried (q .cap) (now (met .entry)) 0 c)))) (r .place) (now (rows .exit)) (now (entering .entry)) a (enteringOf (carried (q .cap) (now (met .entry)) 0 c)) (r .entering) (now (entering .exit)) ⌝ }
+    ensures { λ r. ⌜ Sub m (r .moved) × Went (heldRows s (heldOf (carried (q .cap) (now (met .entry)) 0 c))) (enteringOf (carried (q .cap) (now (met .entry)) 0 c)) (r .moved) (row s c) ⌝ }
 {
     let room = rows.len() / 2;
     let w = cut::Pieces {
@@ -41,16 +60,19 @@ pub fn serve(
         return Ends {
             place: rows.len(),
             entering: z.entering,
+            moved: m | c,
         };
     }
     let next = rows::hold(held, z.held, s, rows, d);
+    let moved = moved_with(held, z.held, z.entering - a, c, m);
     Ends {
         place: next,
         entering: z.entering,
+        moved: moved,
     }
 }
 
-// One row: served where it asks, and else kept.
+// One row: served where it asks and shares a choice with u, and else kept.
 pub fn step(
     tables: &[u64],
     met: &[u64],
@@ -59,20 +81,24 @@ pub fn step(
     rows: &mut [u64],
     d: usize,
     a: usize,
+    m: u64,
     s: u64,
     c: u64,
+    u: u64,
     q: asking::Job,
 ) -> Ends
     requires { ⌜ (2 ≤ length (now rows)) × (length (now rows) / 2 * 2 ≡ length (now rows)) × (length (now rows) ≤ length (now held) * 2) × (length (now rows) ≤ length (now entering) * 2) × (d ≤ length (now rows)) × (a * 2 ≤ length (now rows)) ⌝ }
-    ensures { λ r. ⌜ Two (now (rows .entry)) d (words (holdRow (now (tables .entry)) q (now (met .entry)) (row s c))) (r .place) (now (rows .exit)) (now (entering .entry)) a (enterRow (now (tables .entry)) q (now (met .entry)) (row s c)) (r .entering) (now (entering .exit)) ⌝ }
+    ensures { λ r. ⌜ Two (now (rows .entry)) d (words (holdStirred (now (tables .entry)) q u (now (met .entry)) (row s c))) (r .place) (now (rows .exit)) (now (entering .entry)) a (enterStirred (now (tables .entry)) q u (now (met .entry)) (row s c)) (r .entering) (now (entering .exit)) ⌝ }
+    ensures { λ r. ⌜ Sub m (r .moved) × Went (holdStirred (now (tables .entry)) q u (now (met .entry)) (row s c)) (enterStirred (now (tables .entry)) q u (now (met .entry)) (row s c)) (r .moved) (row s c) ⌝ }
 {
-    if asking::asks(tables, s, q.minute, q.place, q.train) {
-        return serve(met, held, entering, rows, d, a, s, c, q);
+    if asking::stirs(tables, s, c, u, q) {
+        return serve(met, held, entering, rows, d, a, m, s, c, q);
     }
     let next = rows::append(rows, d, s, c);
     Ends {
         place: next,
         entering: a,
+        moved: m,
     }
 }
 
@@ -86,30 +112,35 @@ pub fn walk(
     entering: &mut [u64],
     rows: &mut [u64],
     d: usize,
+    u: u64,
     q: asking::Job,
 ) -> Ends
     requires { ⌜ (n * 2 ≤ length (now src)) × (2 ≤ length (now rows)) × (length (now rows) / 2 * 2 ≡ length (now rows)) × (length (now rows) ≤ length (now held) * 2) × (length (now rows) ≤ length (now entering) * 2) × (d < length (now rows)) ⌝ }
-    ensures { λ r. ⌜ Two (now (rows .entry)) d (words (each (holdRow (now (tables .entry)) q (now (met .entry))) (rowsIn n (now (src .entry))))) (r .place) (now (rows .exit)) (now (entering .entry)) 0 (each (enterRow (now (tables .entry)) q (now (met .entry))) (rowsIn n (now (src .entry)))) (r .entering) (now (entering .exit)) ⌝ }
+    ensures { λ r. ⌜ Two (now (rows .entry)) d (words (each (holdStirred (now (tables .entry)) q u (now (met .entry))) (rowsIn n (now (src .entry))))) (r .place) (now (rows .exit)) (now (entering .entry)) 0 (each (enterStirred (now (tables .entry)) q u (now (met .entry))) (rowsIn n (now (src .entry)))) (r .entering) (now (entering .exit)) ⌝ }
+    ensures { λ r. ⌜ Every (λ x. Went (holdStirred (now (tables .entry)) q u (now (met .entry)) x) (enterStirred (now (tables .entry)) q u (now (met .entry)) x) (r .moved) x) (rowsIn n (now (src .entry))) ⌝ }
 {
     let mut i = 0;
     let mut at = d;
     let mut a = 0;
+    let mut m = 0;
     while i < n {
         let s = src[i * 2];
         let c = src[i * 2 + 1];
-        let z = step(tables, met, held, entering, rows, at, a, s, c, q);
+        let z = step(tables, met, held, entering, rows, at, a, m, s, c, u, q);
         at = z.place;
         a = z.entering;
+        m = z.moved;
         i += 1;
     }
     Ends {
         place: at,
         entering: a,
+        moved: m,
     }
 }
 
-// The pass over the first n rows, in place, where none before row i asks: the place after the last word, or the length of the rows where they
-// leave no place, and how many covers have entered.
+// The pass over the first n rows, in place, where none before row i asks and only those that share a choice with u are served: the place after the
+// last word, or the length of the rows where they leave no place, how many covers have entered, and all that moved.
 pub fn pass(
     rows: &mut [u64],
     n: usize,
@@ -119,16 +150,18 @@ pub fn pass(
     met: &mut [u64],
     held: &mut [u64],
     entering: &mut [u64],
+    u: u64,
     q: asking::Job,
 ) -> Ends
     requires { ⌜ Lent (now tables) (now rows) (now tmp) (now met) (now held) (now entering) ⌝ }
     requires { ⌜ (n * 2 < length (now rows)) × (i ≤ n) × Every (λ x. askingOf (now tables) q x ≡ false) (rowsIn i (now rows)) ⌝ }
-    ensures { λ r. ⌜ Passed (passedOf (now (tables .entry)) q (rowsIn n (now (rows .entry)))) (coversOf (now (tables .entry)) q (rowsIn n (now (rows .entry)))) r (now (rows .exit)) (now (entering .exit)) ⌝ }
+    ensures { λ r. ⌜ Passed (stirredPass (now (tables .entry)) q u (rowsIn n (now (rows .entry)))) (stirredCovers (now (tables .entry)) q u (rowsIn n (now (rows .entry)))) r (now (rows .exit)) (now (entering .exit)) ⌝ }
+    ensures { λ r. ⌜ Every (λ x. Went (holdStirred (now (tables .entry)) q u (metFor q (rowsIn n (now (rows .entry)))) x) (enterStirred (now (tables .entry)) q u (metFor q (rowsIn n (now (rows .entry)))) x) (r .moved) x) (rowsIn n (now (rows .entry))) ⌝ }
 {
     let m = asking::meet(rows, n, q, met);
     let from = i * 2;
     let _x = rows::copy(rows, from, n * 2, tmp);
-    let z = walk(tmp, n - i, tables, &met[..m], held, entering, rows, from, q);
+    let z = walk(tmp, n - i, tables, &met[..m], held, entering, rows, from, u, q);
     let r = rows::enter(
         entering,
         z.entering,
@@ -141,5 +174,6 @@ pub fn pass(
     Ends {
         place: r,
         entering: z.entering,
+        moved: z.moved,
     }
 }

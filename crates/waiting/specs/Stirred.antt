@@ -14,9 +14,10 @@ use Rattle.simulation.specs.Lists.{Every, each-self, each-every, every-append, 
 use Rattle.cut.specs.Cut.{Part, part, fullOf, carried, heldOf, enteringOf}
 use Rattle.rows.specs.Rows.{Row, row, metOf, endedOf, sweptOf, heldRows, enteredRows}
 use Rattle.asking.specs.declared.Job.{Job}
-use Rattle.asking.specs.Ask.{dueOf, nextOf, capOf, asksOf, metFor, askingOf}
+use Rattle.asking.specs.Ask.{dueOf, nextOf, capOf, asksOf, metFor, askingOf, stirredOf}
 use Rattle.asking.specs.Asking.{Asking, asking}
-use Rattle.serving.specs.Pass.{holdBy, enterBy, holdRow, enterRow, coversOf, passedOf}
+use Rattle.serving.specs.Pass.{holdBy, enterBy, holdRow, enterRow, coversOf, passedOf, stirredCovers, stirredPass, Went}
+use Rattle.serving.specs.Pass.Went.{as-it-is, moves}
 use Rattle.quiet.specs.Parts.{Sub, sub-trans}
 use Rattle.quiet.specs.Quiet.{Quiet, quiet-held, Piece, pieces}
 use Rattle.quiet.specs.Like.{part-apart}
@@ -24,19 +25,6 @@ use Rattle.waiting.specs.Calm.{waitsOf, spot, spotOf, metAt, Still, Sett
 use Rattle.waiting.specs.Calm.Still.{stirred, quiet}
 use Rattle.waiting.specs.Calm.Told.{nobody, told}
 use Rattle.waiting.specs.Calm.Moved.{stays, goes}
-
--- ---- the definitions
-
--- a row that asks and shares a choice with u
-unfoldable pub stirredOf : List ℕ → Job → ℕ → Row → Bool
-stirredOf T q u r = cond (askingOf T q r) (fullOf 8 (bitAnd (r .cover) u)) false
-
--- the covers that enter and the rows after the pass, where only those rows are served
-unfoldable pub stirredCovers : List ℕ → Job → ℕ → List Row → List ℕ
-stirredCovers T q u l = each (enterBy (stirredOf T q u) (q .cap) (metFor q l)) l
-
-unfoldable pub stirredPass : List ℕ → Job → ℕ → List Row → List Row
-stirredPass T q u l = each (holdBy (stirredOf T q u) (q .cap) (metFor q l)) l ++ enteredRows (q .stands) (q .blocks) (q .two) (stirredCovers T q u l)
 
 -- ---- due, and waiting
 
@@ -126,11 +114,6 @@ pub record Spread (T : List ℕ) (q : Job) (stir asked : ℕ → ℕ) (from move
   pub more : (i : ℕ) → asked′ i ≡ 0 → asked i ≡ 0
   pub left : (k : ℕ) → k < 8 → (k ≡ q .train → ⊥) → Told stir′ asked′ (spot k from) moved
   pub fresh : waitsOf (q .minute + 1) (q .stands) ≡ true → (asked′ (spotOf T (q .stands)) ≡ 0 → ⊥) × Sub moved (stir′ (spotOf T (q .stands)))
-
--- a row that is as it was, and of which nothing enters; or it is among all that moved
-pub data Went (hold : List Row) (enter : List ℕ) (moved : ℕ) (r : Row) : Type 0 where
-  as-it-is : hold ≡ r ∷ [] → enter ≡ [] → Went hold enter moved r
-  moves : Sub (r .cover) moved → Went hold enter moved r
 
 -- what the pass is known to be: its train and states are of a train below eight, its block is none that waits, its askers stand at one place, and the codes
 -- of the next elements fit their places

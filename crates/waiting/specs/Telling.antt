@@ -1,44 +1,19 @@
 -- Laws of what a run notes: telling a pair of a cover, and telling all pairs of an element, only makes words grow, and the pair then knows of the cover.
 -- Assumes nothing.
-use mathlib.Core.Path.{_≡_, refl, ap, ap₂, sym, _∙_}
-use mathlib.Core.Bool.{Bool, true, false, cond, false≢true}
+use mathlib.Core.Path.{_≡_, refl, ap, sym, _∙_}
+use mathlib.Core.Bool.{Bool, true, false, cond}
 use mathlib.Core.List.{List, [], _∷_}
-use Prim.Native.Nat.{ℕ, zero, suc, _+_, _*_, _/_, _%_, _^_, min, max, _≤_, _<_}
-use native.Mathlib.Nat.{pow-succ'}
+use Prim.Native.Nat.{ℕ, zero, suc, _+_, _*_, _%_, _≤_, _<_}
 use native.Mathlib.Omega.{arith}
-use borrow.Author.Tests.{eqb-true, eqb-false, eq-eqb, ne-eqb, lt-ltb, le-ltb, ltb-true, ltb-false}
+use borrow.Author.Tests.{eqb-true, eqb-false, lt-ltb, ltb-true, ltb-false}
 use lib.ListN.{length, getD, set, length-set}
 use lib.Seq.{getD-set-same, getD-set-other}
-use lib.Bits.{bitAnd, bitOr, and-step, or-step, and-self, and-zero-l, or-zero-l, or-comm}
+use lib.Bits.{bitAnd, bitOr, and-self, and-zero-l}
 use lib.Dec.{ltb, eqb}
-use Rattle.quiet.specs.Parts.{Sub, sub-trans}
+use Rattle.quiet.specs.Parts.{Sub, sub-trans, sub-or-left, sub-or-right}
 use Rattle.waiting.specs.Calm.{spot, Told}
 use Rattle.waiting.specs.Calm.Told.{nobody, told}
 use Rattle.waiting.specs.Notes.{stirIn, askedIn, toldOf, toldAll, freshOf, Flagged, Grows}
-
--- ---- bits of either
-
-sub-or-by : (k a b : ℕ) → a < 2 ^ k → bitAnd a (bitOr a b) ≡ a
-sub-or-by zero a b h =
-    let z : a ≡ 0 = omega arith in
-    rw z (and-zero-l (bitOr 0 b))
-sub-or-by (suc k) a b h =
-    let half : bitOr a b / 2 ≡ bitOr (a / 2) (b / 2) = omega (arith, or-step a b) in
-    let low : bitOr a b % 2 ≡ max (a % 2) (b % 2) = omega (arith, or-step a b) in
-    and-step a (bitOr a b)
-    ∙ ap₂ (λ (x y : ℕ). bitAnd (a / 2) x * 2 + min (a % 2) y) half low
-    ∙ ap (λ (x : ℕ). x * 2 + min (a % 2) (max (a % 2) (b % 2))) (sub-or-by k (a / 2) (b / 2) (omega (arith, pow-succ' 2 k)))
-    ∙ omega arith
-
-pub sub-or-left : (a b : ℕ) → Sub a (bitOr a b)
-sub-or-left a b = sub-or-by a a b (below-power a)
-  where
-    below-power : (n : ℕ) → n < 2 ^ n
-    below-power zero = omega arith
-    below-power (suc n) = omega (arith, below-power n, pow-succ' 2 n)
-
-pub sub-or-right : (a b : ℕ) → Sub b (bitOr a b)
-sub-or-right a b = ap (bitAnd b) (or-comm a b) ∙ sub-or-left b a
 
 -- ---- growing
 
