@@ -1,19 +1,23 @@
 -- Laws of the two outputs of a pass, the rows and the covers that enter: what one row writes after another is what both write together.
 -- Each piece makes a row in one of the two, so pieces that leave no place leave none in the rows. Assumes nothing.
-use mathlib.Core.Path.{_≡_, refl, ap, _∙_}
-use mathlib.Core.List.{List, [], _++_, map}
-use Prim.Native.Nat.{ℕ, _+_, _*_, _≤_, _<_}
+use mathlib.Core.Path.{_≡_, refl, ap, sym, _∙_}
+use mathlib.Core.List.{List, [], _∷_, _++_, map}
+use Prim.Native.Nat.{ℕ, _+_, _-_, _*_, _≤_, _<_}
 use native.Mathlib.Decide.{decLt}
 use native.Mathlib.Omega.{arith}
-use lib.ListN.{length, take, length-append, length-map}
+use lib.ListN.{length, take, getD, length-append, length-map}
+use lib.Bits.{bitOr, and-self}
 use lib.Seq.{sets, length-sets}
 use Rattle.cut.specs.declared.Pieces.{Pieces}
 use Rattle.cut.specs.Cut.{Part, heldOf, enteringOf, Room, fitting, Wrote}
 use Rattle.cut.specs.Lists.{sets-append}
 use Rattle.cut.specs.Written.{length-apart, wrote-entering-length, fitting-count, fitting-all}
+use Rattle.quiet.specs.Parts.{Sub, sub-or-left, sub-or-right}
 use Rattle.rows.specs.Rows.{row, words, Put, heldRows}
 use Rattle.rows.specs.Written.{words-length, put-none, put-join, put-length, put-fits, put-start}
-use Rattle.serving.specs.Pass.{Came, Two}
+use Rattle.serving.specs.Pass.{Came, Two, Stays, Went}
+use Rattle.serving.specs.Pass.Stays.{whole, moved-on}
+use Rattle.serving.specs.Pass.Went.{as-it-is, moves}
 use Rattle.serving.specs.Pass.Two.{fits, over}
 
 -- ---- covers that enter
@@ -103,3 +107,34 @@ module _ (room : ℕ) (w : Pieces) {z : Pieces} {held entering held′ entering�
       record { place = omega (arith, all .heldPlace); list = all .heldList ∙ ap (λ (i : ℕ). sets held i (heldOf P)) none } in
       let written : Put rows d (words (heldRows s (heldOf P))) r rows′ = rw (came-taken came few) at put in
       two-both (omega (arith, pieces-count)) written (record { place = all .enteringPlace; list = all .enteringList })
+
+  -- the pieces that are held where all are written
+  pub pieces-held : (z .held + z .entering ≡ room → ⊥) → take (z .held) held′ ≡ heldOf P
+  pieces-held some =
+      let all : Wrote w held entering P z held′ entering′ = fitting-all P f (omega (arith, pieces-count)) in
+      let few : length (heldOf P) ≤ length held = omega (arith, all .heldPlace, pieces-count, ready .heldLong) in
+      let came : Came held 0 (heldOf P) (z .held) held′ =
+      record { place = omega (arith, all .heldPlace); list = all .heldList ∙ ap (λ (i : ℕ). sets held i (heldOf P)) none } in
+      came-taken came few
+
+  -- a cover that is held as it is, or is among all that moved
+  pub pieces-went : (s c : ℕ) (moved : ℕ) → (z .held + z .entering ≡ room → ⊥) → Stays (take (z .held) held′) (z .entering - w .entering) c moved
+      → Went (heldRows s (heldOf P)) (enteringOf P) moved (row s c)
+  unfolding heldRows
+  pieces-went s c moved some (whole h e) =
+      let all : Wrote w held entering P z held′ entering′ = fitting-all P f (omega (arith, pieces-count)) in
+      as-it-is (ap (map (λ x. row s x)) (sym (pieces-held some) ∙ h)) (empty (enteringOf P) (omega (arith, all .enteringPlace)))
+    where
+      empty : (l : List ℕ) → length l ≡ 0 → l ≡ []
+      empty [] k = refl
+      empty (x ∷ l) k = absurd (omega arith)
+  pieces-went s c moved some (moved-on k) = moves k
+
+-- ---- a cover that is held as it is
+
+pub held-whole : (l : List ℕ) (h c entered m : ℕ) → h ≡ 1 → h ≤ length l → getD l 0 0 ≡ c → entered ≡ 0 → Sub m m × Stays (take h l) entered c m
+held-whole [] h c entered m e k g z = absurd (omega arith)
+held-whole (x ∷ l) h c entered m e k g z = (and-self m, whole (ap (λ (n : ℕ). take n (x ∷ l)) e ∙ ap (λ (y : ℕ). y ∷ []) g) z)
+
+pub moved-more : (hs : List ℕ) (entered c m : ℕ) → Sub m (bitOr m c) × Stays hs entered c (bitOr m c)
+moved-more hs entered c m = (sub-or-left m c, moved-on (sub-or-right m c))

@@ -4,7 +4,7 @@ use native.Mathlib.Omega.{arith}
 use lib.Seq.{length-take-le}
 use Rattle.rows.specs.Written.{put-fits}
 use Rattle.serving.specs.Outputs.{two-bounds}
-use Rattle.serving.specs.Passing.{pass-law}
+use Rattle.serving.specs.Passing.{pass-law, pass-went}
 use borrow.Author.Needs.{needs}
 use Rattle.serving.proofs.pass.Statement.{statement}
 use Rattle.serving.proofs.pass.Tie as tie
@@ -41,7 +41,7 @@ walk-requires c κs = search needs
 
 enter-requires : tie.Need-enter-requires
 enter-requires c κs =
-    let b = two-bounds (c .before .before .before .before .before .before .before .before .walk .ensures) in
+    let b = two-bounds (c .before .before .before .before .before .before .before .before .walk .ensures .0) in
     let l = c .before .before .before .before .before .before .before .before .before .before .before .before .before .before .before .before .before .before .before .before .before .before .before .before .before .before .before .before .before .before .pre .0 in
     (omega (arith, b .few, b .entering-length, l .entering-long), b .place)
 
@@ -63,7 +63,8 @@ same-length-5 c = search needs
 returns : tie.Need-returns
 returns c =
     let s = c .before .before .before .before .before .before .before .before .before .before .before .before .before .before .before .before .before .before .before .before .before .before .before .before .before .before .before .before .before .before .before .before .before .args in
-    pass-law (s .tables .now) (s .q) (s .n) (s .i) (s .rows .now) (c .before .before .before .before .before .before .before .before .before .before .before .before .before .before .before .before .before .before .before .before .before .before .before .before .before .before .before .before .before .before .before .before .before .pre .0) (c .before .before .before .before .before .before .before .before .before .before .before .before .before .before .before .before .before .before .before .before .before .before .before .before .before .before .before .before .before .before .before .before .before .pre .1 .0) (c .before .before .before .before .before .before .before .before .before .before .before .before .before .before .before .before .before .before .before .before .before .before .before .before .before .before .before .before .before .before .before .before .before .pre .1 .1) (c .before .before .before .before .before .before .before .before .before .before .before .before .before .before .before .before .before .before .before .before .before .before .before .before .before .before .before .before .before .before .before .before .before .pre .1 .2) {z = c .before .before .before .before .before .before .before .before .before .before .before .walk .result} (c .before .before .before .before .before .before .before .before .before .before .before .before .before .before .before .before .before .before .before .before .before .before .before .before .meet .ensures) (c .before .before .before .before .before .before .before .before .before .before .before .before .before .before .before .before .before .before .before .copy .ensures) (c .before .before .before .before .before .before .before .before .before .before .before .walk .ensures) (c .before .before .enter .ensures)
+    let p = c .before .before .before .before .before .before .before .before .before .before .before .before .before .before .before .before .before .before .before .before .before .before .before .before .before .before .before .before .before .before .before .before .before .pre in
+    (pass-law (s .tables .now) (s .q) (s .u) (s .n) (s .i) (s .rows .now) (p .0) (p .1 .0) (p .1 .1) (p .1 .2) {z = c .before .before .before .before .before .before .before .before .before .before .before .walk .result} (c .before .before .before .before .before .before .before .before .before .before .before .before .before .before .before .before .before .before .before .before .before .before .before .before .meet .ensures) (c .before .before .before .before .before .before .before .before .before .before .before .before .before .before .before .before .before .before .before .copy .ensures) (c .before .before .before .before .before .before .before .before .before .before .before .walk .ensures .0) (c .before .before .enter .ensures), pass-went (s .tables .now) (s .q) (s .u) (s .n) (s .i) (s .rows .now) (p .0) (p .1 .0) (p .1 .1) (p .1 .2) (c .before .before .before .before .before .before .before .before .before .before .before .walk .result .moved) (c .before .before .before .before .before .before .before .before .before .before .before .before .before .before .before .before .before .before .before .before .before .before .before .before .meet .ensures) (c .before .before .before .before .before .before .before .before .before .before .before .before .before .before .before .before .before .before .before .copy .ensures) (c .before .before .before .before .before .before .before .before .before .before .before .walk .ensures .1))
 
 pub pass-spec : {M : Type 1} → statement M
 pass-spec =

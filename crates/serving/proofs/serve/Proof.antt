@@ -7,7 +7,9 @@ use lib.ListN.{length}
 use Rattle.cut.specs.Cut.{carried, Room}
 use Rattle.cut.specs.declared.Pieces.{Pieces}
 use Rattle.cut.specs.Written.{wrote-held-length}
-use Rattle.serving.specs.Outputs.{pieces-count, pieces-over, pieces-fit}
+use Rattle.quiet.specs.Parts.{sub-or-left, sub-or-right}
+use Rattle.serving.specs.Pass.Went.{moves}
+use Rattle.serving.specs.Outputs.{pieces-count, pieces-over, pieces-fit, pieces-went}
 use borrow.Author.Needs.{needs}
 use Rattle.serving.proofs.serve.Statement.{statement}
 use Rattle.serving.proofs.serve.Tie as tie
@@ -15,6 +17,7 @@ use Rattle.serving.proofs.serve.Reads as reads
 use Rattle.serving.proofs.serve.Lts as lts
 use Rattle.cut.proofs.carry.Reads as carry-reads
 use Rattle.rows.proofs.hold.Reads as hold-reads
+use Rattle.serving.proofs.moved_with.Reads as moved-with-reads
 
 carry-requires : tie.Need-carry-requires
 carry-requires c κs = (record { count = omega arith; heldLong = omega arith; enteringLong = omega arith }, omega arith)
@@ -33,12 +36,20 @@ same-length-2 c = search needs
 returns : tie.Need-returns
 returns c =
     let s = c .before .before .before .before .before .before .before .before .before .before .before .before .before .args in
-    pieces-over (length (s .rows .now) / 2) (record { held = 0; entering = s .a }) (carried (s .q .cap) (s .met .now) 0 (s .c)) (record { count = omega arith; heldLong = omega arith; enteringLong = omega arith }) refl (c .before .before .before .before .before .before .carry .ensures) (s .rows .now) (s .s) (s .d) (omega arith) (omega arith)
+    (pieces-over (length (s .rows .now) / 2) (record { held = 0; entering = s .a }) (carried (s .q .cap) (s .met .now) 0 (s .c)) (record { count = omega arith; heldLong = omega arith; enteringLong = omega arith }) refl (c .before .before .before .before .before .before .carry .ensures) (s .rows .now) (s .s) (s .d) (omega arith) (omega arith), (sub-or-left (s .m) (s .c), moves (sub-or-right (s .m) (s .c))))
 
 hold-requires : tie.Need-hold-requires
 hold-requires c κs =
     let s = c .before .before .before .before .before .before .before .before .before .before .before .before .before .before .before .args in
     (omega (arith, pieces-count (length (s .rows .now) / 2) (record { held = 0; entering = s .a }) (carried (s .q .cap) (s .met .now) 0 (s .c)) (record { count = omega arith; heldLong = omega arith; enteringLong = omega arith }) refl (c .before .before .before .before .before .before .before .before .carry .ensures), wrote-held-length (c .before .before .before .before .before .before .before .before .carry .ensures)), search needs)
+
+sub-moved-with : tie.Need-sub-moved-with
+sub-moved-with c = search needs
+
+moved-with-requires : tie.Need-moved-with-requires
+moved-with-requires c κs =
+    let s = c .before .before .before .before .before .before .before .before .before .before .before .before .before .before .before .before .before .before .before .before .args in
+    (omega (arith, pieces-count (length (s .rows .now) / 2) (record { held = 0; entering = s .a }) (carried (s .q .cap) (s .met .now) 0 (s .c)) (record { count = omega arith; heldLong = omega arith; enteringLong = omega arith }) refl (c .before .before .before .before .before .before .before .before .before .before .before .before .before .carry .ensures), wrote-held-length (c .before .before .before .before .before .before .before .before .before .before .before .before .before .carry .ensures)))
 
 same-length-3 : tie.Need-same-length-3
 same-length-3 c = search needs
@@ -51,8 +62,9 @@ same-length-5 c = search needs
 
 returns-2 : tie.Need-returns-2
 returns-2 c =
-    let s = c .before .before .before .before .before .before .before .before .before .before .before .before .before .before .before .before .before .before .args in
-    pieces-fit (length (s .rows .now) / 2) (record { held = 0; entering = s .a }) (carried (s .q .cap) (s .met .now) 0 (s .c)) (record { count = omega arith; heldLong = omega arith; enteringLong = omega arith }) refl (c .before .before .before .before .before .before .before .before .before .before .before .carry .ensures) (s .s) (s .d) (c .before .before .before .before .before .if1 .left) (omega arith) (c .before .before .hold .ensures)
+    let s = c .before .before .before .before .before .before .before .before .before .before .before .before .before .before .before .before .before .before .before .before .before .args in
+    let m = c .moved-with .ensures in
+    (pieces-fit (length (s .rows .now) / 2) (record { held = 0; entering = s .a }) (carried (s .q .cap) (s .met .now) 0 (s .c)) (record { count = omega arith; heldLong = omega arith; enteringLong = omega arith }) refl (c .before .before .before .before .before .before .before .before .before .before .before .before .before .before .carry .ensures) (s .s) (s .d) (c .before .before .before .before .before .before .before .before .if1 .left) (omega arith) (c .before .before .before .before .before .hold .ensures), (m .0, pieces-went (length (s .rows .now) / 2) (record { held = 0; entering = s .a }) (carried (s .q .cap) (s .met .now) 0 (s .c)) (record { count = omega arith; heldLong = omega arith; enteringLong = omega arith }) refl (c .before .before .before .before .before .before .before .before .before .before .before .before .before .before .carry .ensures) (s .s) (s .c) (c .moved-with .result) (c .before .before .before .before .before .before .before .before .if1 .left) (m .1)))
 
 pub serve-spec : {M : Type 1} → statement M
 serve-spec =
@@ -64,6 +76,8 @@ serve-spec =
     same-length-2
     returns
     hold-requires
+    sub-moved-with
+    moved-with-requires
     same-length-3
     same-length-4
     same-length-5

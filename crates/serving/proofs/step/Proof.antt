@@ -1,20 +1,21 @@
--- `serving::step` meets its contract, by whether the row asks. Assumes nothing.
+-- `serving::step` meets its contract, by whether the row is served. Assumes nothing.
 use native.Mathlib.Omega.{arith}
-use mathlib.Core.Path.{sym, _∙_}
+use mathlib.Core.Path.{refl, sym, _∙_}
+use lib.Bits.{and-self}
 use Rattle.rows.specs.Rows.{words}
-use Rattle.serving.specs.Pass.{holdRow, enterRow}
+use Rattle.serving.specs.Pass.Went.{as-it-is}
 use Rattle.serving.specs.Outputs.{two-row}
 use borrow.Author.Needs.{needs}
 use Rattle.serving.proofs.step.Statement.{statement}
 use Rattle.serving.proofs.step.Tie as tie
 use Rattle.serving.proofs.step.Reads as reads
 use Rattle.serving.proofs.step.Lts as lts
-use Rattle.asking.proofs.asks.Reads as asks-reads
+use Rattle.asking.proofs.stirs.Reads as stirs-reads
 use Rattle.serving.proofs.serve.Reads as serve-reads
 use Rattle.rows.proofs.append.Reads as append-reads
 
-asks-requires : tie.Need-asks-requires
-asks-requires c κs = search needs
+stirs-requires : tie.Need-stirs-requires
+stirs-requires c κs = search needs
 
 serve-requires : tie.Need-serve-requires
 serve-requires c κs = search needs
@@ -29,8 +30,7 @@ same-length-3 : tie.Need-same-length-3
 same-length-3 c = search needs
 
 returns : tie.Need-returns
-unfolding holdRow enterRow
-returns c = rw (sym (c .before .before .before .before .before .before .before .before .before .before .before .asks .ensures) ∙ c .before .before .before .before .before .before .before .before .before .before .if1 .taken) (c .before .before .before .before .before .before .serve .ensures)
+returns c = rw (sym (c .before .before .before .before .before .before .before .before .before .before .before .stirs .ensures) ∙ c .before .before .before .before .before .before .before .before .before .before .if1 .taken) (c .before .before .before .before .before .before .serve .ensures)
 
 append-requires : tie.Need-append-requires
 append-requires c κs = search needs
@@ -39,14 +39,16 @@ same-length-4 : tie.Need-same-length-4
 same-length-4 c = search needs
 
 returns-2 : tie.Need-returns-2
-unfolding holdRow enterRow words
-returns-2 c = rw (sym (c .before .before .before .before .before .asks .ensures) ∙ c .before .before .before .before .if1 .left) (two-row _ _ (omega arith) (c .before .before .append .ensures))
+unfolding words
+returns-2 c =
+    rw (sym (c .before .before .before .before .before .stirs .ensures) ∙ c .before .before .before .before .if1 .left)
+    (two-row _ _ (omega arith) (c .before .before .append .ensures), (and-self (c .before .before .before .before .before .before .before .before .before .before .before .args .m), as-it-is refl refl))
 
 pub step-spec : {M : Type 1} → statement M
 step-spec =
     tie.close
     (tie.spec
-    asks-requires
+    stirs-requires
     serve-requires
     same-length
     same-length-2

@@ -7,7 +7,9 @@ use lib.ListN.{length}
 use Rattle.rules.specs.Lists.{each}
 use Rattle.rows.specs.Rows.{words, rowsOf, rowsIn, rowAt}
 use Rattle.rows.specs.Written.{each-more, words-append}
-use Rattle.serving.specs.Pass.{holdRow, enterRow, Two}
+use Rattle.simulation.specs.Lists.{Every}
+use Rattle.serving.specs.Pass.{holdStirred, enterStirred, Went, Two}
+use Rattle.serving.specs.Passing.{went-more}
 use Rattle.serving.specs.Outputs.{two-none, two-join, two-bounds}
 use Rattle.serving.proofs.walk.Statement.{statement}
 use Rattle.serving.proofs.walk.Tie as tie
@@ -16,14 +18,18 @@ use Rattle.serving.proofs.walk.Lts as lts
 use Rattle.serving.proofs.step.Reads as step-reads
 
 abbrev Inv-loop : tie.InvT-loop
-Inv-loop src n tables met held₀ entering₀ rows₀ d q i₀ at₀ a₀ held entering rows i at a = (i ≤ n) × Two rows₀ d (words (each (holdRow tables q met) (rowsIn i src))) at rows entering₀ 0 (each (enterRow tables q met) (rowsIn i src)) a entering × (length held ≡ length held₀)
+Inv-loop src n tables met held₀ entering₀ rows₀ d u q i₀ at₀ a₀ m₀ held entering rows i at a m =
+    (i ≤ n)
+    × Two rows₀ d (words (each (holdStirred tables q u met) (rowsIn i src))) at rows entering₀ 0 (each (enterStirred tables q u met) (rowsIn i src)) a entering
+    × (length held ≡ length held₀)
+    × Every (λ x. Went (holdStirred tables q u met x) (enterStirred tables q u met x) m x) (rowsIn i src)
 
 abbrev μ-loop : tie.MeasureT-loop
-μ-loop src n tables met held₀ entering₀ rows₀ d q i₀ at₀ a₀ held entering rows i at a = n - i
+μ-loop src n tables met held₀ entering₀ rows₀ d u q i₀ at₀ a₀ m₀ held entering rows i at a m = n - i
 
 loop-holds : tie.Need-loop-holds Inv-loop μ-loop
 unfolding words rowsOf
-loop-holds c = (search needs, two-none _ _ _ (search needs), refl)
+loop-holds c = (search needs, two-none _ _ _ (search needs), refl, tt)
 
 mul-s : tie.Need-mul-s Inv-loop μ-loop
 mul-s c = search needs
@@ -60,9 +66,10 @@ loop-again c =
     let s = c .before .before .before .before .before .before .before .before .before .before .before .before .before .before .before .before .before .before .before .before .args in
     let l = c .before .before .before .before .before .before .before .before .before .before .before .before .before .loop in (
       omega arith,
-      rw (each-more (holdRow (s .tables .now) (s .q) (s .met .now)) (l .i) (s .src .now) (omega arith), each-more (enterRow (s .tables .now) (s .q) (s .met .now)) (l .i) (s .src .now) (omega arith), words-append (each (holdRow (s .tables .now) (s .q) (s .met .now)) (rowsIn (l .i) (s .src .now))) (holdRow (s .tables .now) (s .q) (s .met .now) (rowAt (s .src .now) (l .i))))
-          (two-join (l .inv .1) (c .before .before .before .before .before .before .step .ensures)),
+      rw (each-more (holdStirred (s .tables .now) (s .q) (s .u) (s .met .now)) (l .i) (s .src .now) (omega arith), each-more (enterStirred (s .tables .now) (s .q) (s .u) (s .met .now)) (l .i) (s .src .now) (omega arith), words-append (each (holdStirred (s .tables .now) (s .q) (s .u) (s .met .now)) (rowsIn (l .i) (s .src .now))) (holdStirred (s .tables .now) (s .q) (s .u) (s .met .now) (rowAt (s .src .now) (l .i))))
+          (two-join (l .inv .1) (c .before .before .before .before .before .before .step .ensures .0)),
       omega arith,
+      went-more (s .tables .now) (s .q) (s .u) (s .met .now) (l .i) (s .src .now) (l .m) (c .before .before .before .before .before .before .step .result .moved) (omega arith) (c .before .before .before .before .before .before .step .ensures .1 .0) (l .inv .3) (c .before .before .before .before .before .before .step .ensures .1 .1),
     )
 
 same-length : tie.Need-same-length Inv-loop μ-loop
@@ -75,7 +82,7 @@ same-length-3 : tie.Need-same-length-3 Inv-loop μ-loop
 same-length-3 c = two-bounds (c .before .loop .inv .1) .rows-length
 
 returns : tie.Need-returns Inv-loop μ-loop
-returns c = let e : c .before .loop .i ≡ c .before .before .before .before .before .before .before .before .args .n = omega arith in rw (← e) (c .before .loop .inv .1)
+returns c = let e : c .before .loop .i ≡ c .before .before .before .before .before .before .before .before .args .n = omega arith in rw (← e) (c .before .loop .inv .1, c .before .loop .inv .3)
 
 pub walk-spec : {M : Type 1} → statement M
 walk-spec =
