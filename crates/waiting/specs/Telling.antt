@@ -253,3 +253,17 @@ fresh-law N i c small F =
           pair-asked A i (bitOr (getD N i 0) c) small G i ∙ asked-is A i small ∙ getD-set-same N (1152 + i) 1 0 (omega (arith, F .long)) in omega arith);
       stir = ap (bitAnd c) (pair-stir A i (bitOr (getD N i 0) c) small G) ∙ sub-or-right (getD N i 0) c;
     }
+
+-- ---- in code
+
+pub told-length : (N : List ℕ) (i c : ℕ) → length (toldOf N i c) ≡ length N
+unfolding toldOf
+told-length N i c = go (eqb (getD N (1152 + i) 0) 0)
+  where
+    go : (b : Bool) → length (cond b N (set (set N i (bitOr (getD N i 0) c)) (1024 + i % 128) 1)) ≡ length N
+    go true = refl
+    go false = length-set (set N i (bitOr (getD N i 0) c)) (1024 + i % 128) 1 ∙ length-set N i (bitOr (getD N i 0) c)
+
+pub toldAll-more : (k : ℕ) (N : List ℕ) (e c : ℕ) → toldOf (toldAll k N e c) (k * 128 + e) c ≡ toldAll (k + 1) N e c
+unfolding toldAll
+toldAll-more k N e c = let z : suc k ≡ k + 1 = omega arith in ap (λ (y : ℕ). toldAll y N e c) z
