@@ -25,7 +25,7 @@ use Rattle.passes.specs.Joint.{Lawful, pass-lawful, pass-nobody, pass-met, pass
 use Rattle.passes.specs.Bounds.{AllBounded, pass-bounded, cleared-bounded}
 use Rattle.passes.specs.Arrivals.{arrivedWeight}
 use Rattle.rows.specs.Rows.{Row}
-use Rattle.visiting.specs.Visit.{Outcome, guard, askedIn, jobFor, afterPass, passOf}
+use Rattle.visiting.specs.Visit.{Outcome, guard, someAsks, jobFor, afterPass, passOf}
 use Rattle.elements.specs.Elements.{elementOf, elementsOf}
 use Rattle.entries.specs.Run.{clearedOf, minuteOf, minutesOf}
 use Rattle.visiting.specs.Visit.Outcome.{refused, stands}
@@ -77,7 +77,7 @@ module _ (C : Case) (sound : Sound C) (t : ℕ) (early : t ≤ C .head .lastMinu
     abbrev minute : t < 720
     minute = omega (arith, sound .in-window)
 
-    made : (s : State Entry) {v : List ℕ} → Kind C s → s .met ≡ 0 → Weighs C v (s .arrived) → askedIn (tables C) t e k (map rowOf (s .list)) ≡ true
+    made : (s : State Entry) {v : List ℕ} → Kind C s → s .met ≡ 0 → Weighs C v (s .arrived) → someAsks (tables C) t e k (map rowOf (s .list)) ≡ true
         → Agrees C (pass C t (placeOf e) k s) (afterPass (tables C) (jobFor (tables C) t e k (map rowOf (s .list))) (map rowOf (s .list)) v)
     made s {v} h z w q =
         subst (Agrees C (pass C t (placeOf e) k s)) (sym same-outcome) (go (ltb (C .head .room) (length l′)) refl)
@@ -121,9 +121,9 @@ module _ (C : Case) (sound : Sound C) (t : ℕ) (early : t ≤ C .head .lastMinu
     pub agrees-pass : (s : State Entry) (o : Outcome) → Kind C s → Agrees C s o → Agrees C (pass C t (placeOf e) k s) (passOf (tables C) t e k o)
     unfolding passOf
     agrees-pass s refused h (over m) = over (subst (λ (n : ℕ). 0 < n) (sym (pass-refused C sound t (placeOf e) k s m)) m)
-    agrees-pass s (stands r v) h (agree z w) = go (askedIn (tables C) t e k (map rowOf (s .list))) refl
+    agrees-pass s (stands r v) h (agree z w) = go (someAsks (tables C) t e k (map rowOf (s .list))) refl
       where
-        go : (b : Bool) → askedIn (tables C) t e k (map rowOf (s .list)) ≡ b
+        go : (b : Bool) → someAsks (tables C) t e k (map rowOf (s .list)) ≡ b
             → Agrees C (pass C t (placeOf e) k s) (cond b (afterPass (tables C) (jobFor (tables C) t e k (map rowOf (s .list))) (map rowOf (s .list)) v) (stands (map rowOf (s .list)) v))
         go true q = made s h z w q
         go false q =

@@ -27,7 +27,7 @@ use Rattle.rows.specs.Rows.{Row, row, heldRows, enteredRows}
 use Rattle.asking.specs.declared.Job.{Job}
 use Rattle.asking.specs.Ask.{asksOf, askerOf, jobOf, capOf, metFor, askingOf}
 use Rattle.serving.specs.Pass.{holdRow, enterRow, coversOf, passedOf}
-use Rattle.visiting.specs.Visit.{askedIn, jobFor}
+use Rattle.visiting.specs.Visit.{someAsks, jobFor}
 use Rattle.entries.specs.Coded.{Coded, code-place, bounded-coded, bounded-fit, state-place}
 use Rattle.entries.specs.Lookups.{table-stay, table-safety}
 use Rattle.entries.specs.Encoded.{rowOf, Good, asks-row, pieces-row}
@@ -87,13 +87,13 @@ module _ (C : Case) (sound : Sound C) (t e k : ℕ) (low : e ≤ 64) where
     pub asks : asksFor C t (placeOf e) k mark ≡ true
     pub state : askerOf (tables C) t e k (map rowOf l) ≡ stateOf mark
 
-  pub asker-of : (l : List Entry) → Every (Good C) l → askedIn (tables C) t e k (map rowOf l) ≡ true → Asker l
+  pub asker-of : (l : List Entry) → Every (Good C) l → someAsks (tables C) t e k (map rowOf l) ≡ true → Asker l
   unfolding askerOf rowOf
   asker-of [] g h = absurd (false≢true h)
   asker-of (r ∷ l) g h = go (asksOf (tables C) t e k (stateOf (r .mark))) refl h (asker-of l (g .1))
     where
-      go : (b : Bool) → asksOf (tables C) t e k (stateOf (r .mark)) ≡ b → (b || askedIn (tables C) t e k (map rowOf l)) ≡ true
-          → (askedIn (tables C) t e k (map rowOf l) ≡ true → Asker l) → Asker (r ∷ l)
+      go : (b : Bool) → asksOf (tables C) t e k (stateOf (r .mark)) ≡ b → (b || someAsks (tables C) t e k (map rowOf l)) ≡ true
+          → (someAsks (tables C) t e k (map rowOf l) ≡ true → Asker l) → Asker (r ∷ l)
       go true q z ih = record {
         mark = r .mark;
         bounded = g .0 .0;
@@ -105,13 +105,13 @@ module _ (C : Case) (sound : Sound C) (t e k : ℕ) (low : e ≤ 64) where
           record { mark = a .mark; bounded = a .bounded; asks = a .asks; state = ap (λ (b : Bool). cond b (stateOf (r .mark)) (askerOf (tables C) t e k (map rowOf l))) q ∙ a .state }
 
   -- nobody asks among the entries where no row asks
-  pub asked-none : (l : List Entry) → Every (Good C) l → askedIn (tables C) t e k (map rowOf l) ≡ false → Every (λ r. asksFor C t (placeOf e) k (r .mark) ≡ false) l
+  pub asked-none : (l : List Entry) → Every (Good C) l → someAsks (tables C) t e k (map rowOf l) ≡ false → Every (λ r. asksFor C t (placeOf e) k (r .mark) ≡ false) l
   unfolding rowOf
   asked-none [] g h = tt
   asked-none (r ∷ l) g h = go (asksOf (tables C) t e k (stateOf (r .mark))) refl h (asked-none l (g .1))
     where
-      go : (b : Bool) → asksOf (tables C) t e k (stateOf (r .mark)) ≡ b → (b || askedIn (tables C) t e k (map rowOf l)) ≡ false
-          → (askedIn (tables C) t e k (map rowOf l) ≡ false → Every (λ r. asksFor C t (placeOf e) k (r .mark) ≡ false) l)
+      go : (b : Bool) → asksOf (tables C) t e k (stateOf (r .mark)) ≡ b → (b || someAsks (tables C) t e k (map rowOf l)) ≡ false
+          → (someAsks (tables C) t e k (map rowOf l) ≡ false → Every (λ r. asksFor C t (placeOf e) k (r .mark) ≡ false) l)
           → Every (λ r. asksFor C t (placeOf e) k (r .mark) ≡ false) (r ∷ l)
       go true q z ih = absurd (false≢true (sym z))
       go false q z ih = (sym (asks-row C sound t e k low (r .mark) (g .0 .0)) ∙ q, ih z)

@@ -1,3 +1,4 @@
 pub mod Visit
-pub mod Noting
+pub mod States
+pub mod Settling
 pub mod Visiting

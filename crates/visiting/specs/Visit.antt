@@ -1,18 +1,19 @@
--- One pass as an outcome: rows and weights, or refusal 12; and the stamps of who is due. Assumes nothing: these are definitions.
+-- One pass as an outcome: rows and weights, or refusal 12; and what a run notes of its rows. Assumes nothing: these are definitions.
 use mathlib.Core.Path.{_≡_}
-use mathlib.Core.Bool.{Bool, true, cond}
-use mathlib.Core.List.{List}
+use mathlib.Core.Bool.{Bool, true, false, cond}
+use mathlib.Core.List.{List, [], _∷_}
 use Prim.Native.Nat.{ℕ, _+_, _*_, _/_, _%_, _^_, _≤_, _<_}
 use lib.ListN.{length, take, getD, set}
 use lib.Dec.{ltb, eqb}
 use Rattle.rules.specs.Lists.{any}
 use Rattle.simulation.specs.Lists.{Every}
-use Rattle.rows.specs.Rows.{Row, rowsOf}
-use Rattle.rows.specs.Stamps.{Has}
+use Rattle.rows.specs.Rows.{Row, rowsOf, endedOf}
 use Rattle.weigh.specs.Weigh.{broughtOf}
 use Rattle.asking.specs.declared.Job.{Job}
 use Rattle.asking.specs.Ask.{dueOf, nextOf, asksOf, askerOf, jobOf}
 use Rattle.serving.specs.Pass.{coversOf, passedOf}
+use Rattle.waiting.specs.Calm.{spot, spotOf, Calm}
+use Rattle.waiting.specs.Notes.{stirIn, askedIn, toldAll, freshOf, Flagged}
 
 -- ---- the pass
 
@@ -23,9 +24,10 @@ pub data Outcome : Type 0 where
 
 -- the weights after the covers cs of the job's train entered: they are added for the minute where the train arrives
 unfoldable pub arrivedOf : List ℕ → Job → List ℕ → List ℕ → List ℕ
-arrivedOf T q cs v =
+arrivedOf T q [] v = v
+arrivedOf T q (c ∷ cs) v =
     cond (eqb (q .place) (getD T (16 + q .train) 0))
-    (set v (q .train * 720 + q .minute) ((getD v (q .train * 720 + q .minute) 0 + broughtOf T cs) % 2 ^ 64))
+    (set v (q .train * 720 + q .minute) ((getD v (q .train * 720 + q .minute) 0 + broughtOf T (c ∷ cs)) % 2 ^ 64))
     v
 
 -- more rows than the room are refused
@@ -37,8 +39,8 @@ abbrev pub jobFor : List ℕ → ℕ → ℕ → ℕ → List Row → Job
 jobFor T t e k l = jobOf T t e k (askerOf T t e k l)
 
 -- some row asks
-abbrev pub askedIn : List ℕ → ℕ → ℕ → ℕ → List Row → Bool
-askedIn T t e k l = any (λ r. asksOf T t e k (r .state)) l
+abbrev pub someAsks : List ℕ → ℕ → ℕ → ℕ → List Row → Bool
+someAsks T t e k l = any (λ r. asksOf T t e k (r .state)) l
 
 -- what a pass makes of the rows l and the weights v
 abbrev pub afterPass : List ℕ → Job → List Row → List ℕ → Outcome
@@ -47,31 +49,22 @@ afterPass T q l v = guard (getD T 3 0) (passedOf T q l) (arrivedOf T q (coversOf
 -- the pass of train k for e at t, if somebody asks
 unfoldable pub passOf : List ℕ → ℕ → ℕ → ℕ → Outcome → Outcome
 passOf T t e k refused = refused
-passOf T t e k (stands l v) = cond (askedIn T t e k l) (afterPass T (jobFor T t e k l) l v) (stands l v)
+passOf T t e k (stands l v) = cond (someAsks T t e k l) (afterPass T (jobFor T t e k l) l v) (stands l v)
 
--- ---- stamps
+-- ---- what a run notes
 
--- where the stamps of a state that is due stand: for train and element, and for the element
-abbrev pub pairSpot : List ℕ → ℕ → ℕ
-pairSpot T s = s / 524288 * 128 + nextOf T s
+-- the minute of the state s is shown
+unfoldable pub showOf : List ℕ → ℕ → List ℕ
+showOf N s = set N (2176 + s % 4096) 1
 
-abbrev pub elementSpot : List ℕ → ℕ → ℕ
-elementSpot T s = 1024 + nextOf T s
+-- rows of the state s with covers among c wait now, if they are due at t
+unfoldable pub wakeOf : List ℕ → ℕ → ℕ → ℕ → List ℕ → List ℕ
+wakeOf T t s c N = cond (dueOf t s) (freshOf N (spotOf T s) c) N
 
--- both stamps of a state that is due are set
-unfoldable pub notedOf : List ℕ → List ℕ → ℕ → ℕ → List ℕ
-notedOf T want t s = cond (dueOf t s) (set (set want (pairSpot T s) (t + 1)) (elementSpot T s) (t + 1)) want
-
--- a state that is due has both its stamps
-abbrev pub Stamped : List ℕ → List ℕ → ℕ → ℕ → Type 0
-Stamped T want t s = dueOf t s ≡ true → Has want (pairSpot T s) (t + 1) × Has want (elementSpot T s) (t + 1)
-
-abbrev pub AllStamped : List ℕ → List ℕ → ℕ → List Row → Type 0
-AllStamped T want t l = Every (λ r. Stamped T want t (r .state)) l
-
--- so has every row of the first w words
-abbrev pub Stamps : List ℕ → List ℕ → ℕ → ℕ → List ℕ → Type 0
-Stamps T want t w rows = w < length rows → AllStamped T want t (rowsOf (take w rows))
+-- after the pass: its own pair has asked, the pairs that it concerns are told of all that moved, and the minutes of the new states are shown
+unfoldable pub settledOf : List ℕ → Job → ℕ → ℕ → List ℕ → List ℕ
+settledOf T q from moved N =
+    showOf (showOf (toldAll 8 (wakeOf T (q .minute) (q .stands) moved (set N (spot (q .train) (q .place)) 0)) from moved) (q .stands)) (q .blocks)
 
 -- ---- contracts
 
@@ -84,8 +77,21 @@ pub record Kept (w : ℕ) (rows : List ℕ) : Type 0 where
   pub within : w ≤ length rows
   pub even : w / 2 * 2 ≡ w
 
--- what a pass leaves: its outcome, whole rows, and the stamps of all who are due
-pub record Seen (T : List ℕ) (t : ℕ) (o : Outcome) (r : ℕ) (rows weights want : List ℕ) : Type 0 where
+-- the planned minutes fit their places, so do the codes of the next elements, and an element is next from one place of a train alone
+pub record Ways (T : List ℕ) : Type 0 where
+  pub stays : (i : ℕ) → i < 1024 → getD T (1264 + i) 0 < 1024
+  pub nexts : (i : ℕ) → i < 1024 → getD T (240 + i) 0 < 128
+  pub one-place : (i j : ℕ) → i < 1024 → j < 1024 → i / 128 ≡ j / 128 → getD T (240 + i) 0 ≤ 64 → getD T (240 + i) 0 ≡ getD T (240 + j) 0 → i ≡ j
+
+-- what is noted of the rows l in minute t: they are calm, their minutes are shown, and none is a block that ended before t
+pub record Noted (T : List ℕ) (t : ℕ) (N : List ℕ) (l : List Row) : Type 0 where
+  pub calm : Calm T (t + 1) (stirIn N) (askedIn N) l
+  pub shown : Every (λ r. getD N (2176 + r .state % 4096) 0 ≡ 0 → ⊥) l
+  pub current : Every (λ r. endedOf t (r .state) ≡ false) l
+
+-- what a pass leaves: its outcome, whole rows, and what is noted of them
+pub record Seen (T : List ℕ) (t : ℕ) (o : Outcome) (r : ℕ) (rows weights notes : List ℕ) : Type 0 where
   pub outcome : read r rows weights ≡ o
   pub kept : Kept r rows
-  pub stamps : Stamps T want t r rows
+  pub flagged : Flagged notes
+  pub noted : r < length rows → Noted T t notes (rowsOf (take r rows))

@@ -1,14 +1,15 @@
-// One pass of one train for one element, where somebody may ask: the rows, the weights that arrive and the stamps of who is due.
+// One pass of one train for one element, where a row of the pair was stirred: the rows, the weights that arrive, and what is noted of who waits.
 ghost use mathlib.Core.Path.{_≡_};
 ghost use mathlib.Core.Bool.{true, false};
-ghost use Prim.Native.Nat.{_*_, _≤_, _<_};
-ghost use lib.ListN.{length, take, getD};
+ghost use Prim.Native.Nat.{_+_, _*_, _/_, _≤_, _<_};
+ghost use lib.ListN.{length, take, getD, set};
 ghost use Rattle.simulation.specs.Lists.{Every};
-ghost use Rattle.rows.specs.Rows.{rowsIn};
+ghost use Rattle.rows.specs.Rows.{rowsOf, rowsIn};
 ghost use Rattle.weigh.specs.Weigh.{Small};
 ghost use Rattle.asking.specs.Ask.{asksOf, Within};
 ghost use Rattle.serving.specs.Pass.{Lent};
-ghost use Rattle.visiting.specs.Visit.{arrivedOf, notedOf, passOf, read, Kept, AllStamped, Stamps, Seen};
+ghost use Rattle.waiting.specs.Notes.{Flagged};
+ghost use Rattle.visiting.specs.Visit.{arrivedOf, showOf, wakeOf, settledOf, passOf, read, Kept, Ways, Noted, Seen};
 
 // The first n covers have entered: where the element is the train's last station, their weights arrive in the job's minute.
 pub fn arrive(
@@ -21,6 +22,9 @@ pub fn arrive(
     requires { ⌜ Small (now tables) × (n ≤ length (now covers)) × (q .train < 8) × (q .minute < 720) ⌝ }
     ensures { λ r. ⌜ now (weights .exit) ≡ arrivedOf (now (tables .entry)) q (take n (now (covers .entry))) (now (weights .entry)) ⌝ }
 {
+    if n == 0 {
+        return 0;
+    }
     if q.place != rows::at(tables, 16 + q.train) {
         return 0;
     }
@@ -28,31 +32,41 @@ pub fn arrive(
     weigh::raise(weights, q.train * 720 + q.minute, x)
 }
 
-// The stamps of a state that is due at t: for its train and next element, and for the element.
-pub fn note(tables: &[u64], want: &mut [u64], s: u64, t: u64) -> usize
-    requires { ⌜ Small (now tables) × (t < 720) ⌝ }
-    ensures { λ r. ⌜ now (want .exit) ≡ notedOf (now (tables .entry)) (now (want .entry)) t s ⌝ }
+// The minute of the state s is shown.
+pub fn show(notes: &mut [u64], s: u64) -> usize
+    requires { ⌜ length (now notes) ≡ 6272 ⌝ }
+    ensures { λ r. ⌜ now (notes .exit) ≡ showOf (now (notes .entry)) s ⌝ }
+{
+    let i = (s % 4096) as usize;
+    notes[2176 + i] = 1;
+    i
+}
+
+// Rows of the state s with covers among c wait now, if they are due at t.
+pub fn wake_due(tables: &[u64], notes: &mut [u64], s: u64, t: u64, c: u64) -> usize
+    requires { ⌜ (length (now notes) ≡ 6272) × Ways (now tables) × (s / 524288 < 8) ⌝ }
+    ensures { λ r. ⌜ now (notes .exit) ≡ wakeOf (now (tables .entry)) t s c (now (notes .entry)) ⌝ }
 {
     if !asking::due(s, t) {
         return 0;
     }
     let e = rows::at(tables, 240 + s / 4096);
-    let _x = rows::stamp(want, s / 524288 * 128 + e, t + 1);
-    rows::stamp(want, 1024 + e, t + 1)
+    let i = s / 524288 * 128 + e;
+    waiting::wake(notes, i as usize, c)
 }
 
-// The stamps of the first n rows.
-pub fn mark(rows: &[u64], n: usize, tables: &[u64], want: &mut [u64], t: u64) -> usize
-    requires { ⌜ (n * 2 ≤ length (now rows)) × Small (now tables) × (t < 720) ⌝ }
-    ensures { λ r. ⌜ AllStamped (now (tables .entry)) (now (want .exit)) t (rowsIn n (now (rows .entry))) ⌝ }
+// After the pass: its own pair has asked, the pairs that it concerns are told of all that moved, and the minutes of the new states are shown.
+pub fn settle(tables: &[u64], notes: &mut [u64], q: asking::Job, from: u64, moved: u64) -> usize
+    requires { ⌜ Flagged (now notes) × Ways (now tables) × (q .train < 8) × (q .place < 128) × (from < 128) × (q .stands / 524288 < 8) ⌝ }
+    ensures { λ r. ⌜ now (notes .exit) ≡ settledOf (now (tables .entry)) q from moved (now (notes .entry)) ⌝ }
 {
-    let mut i = 0;
-    while i < n {
-        let s = rows[i * 2];
-        let _x = note(tables, want, s, t);
-        i += 1;
-    }
-    i
+    let i = q.train * 128 + q.place;
+    let own = i as usize;
+    notes[own] = 0;
+    let _x = wake_due(tables, notes, q.stands, q.minute, moved);
+    let _y = waiting::tell_all(notes, from as usize, moved);
+    let _z = show(notes, q.stands);
+    show(notes, q.blocks)
 }
 
 // The pass of train k for e, where row i is the first that asks. Returns the place after the last word, or the length of the rows for refusal 12.
@@ -65,26 +79,38 @@ pub fn served(
     met: &mut [u64],
     held: &mut [u64],
     entering: &mut [u64],
-    want: &mut [u64],
+    notes: &mut [u64],
     weights: &mut [u64],
     t: u64,
     e: u64,
     k: u64,
+    u: u64,
 ) -> usize
     requires { ⌜ Lent (now tables) (now rows) (now tmp) (now met) (now held) (now entering) ⌝ }
-    requires { ⌜ Within t e k × Small (now tables) ⌝ }
-    requires { ⌜ (i < n) × (n * 2 < length (now rows)) × Every (λ x. asksOf (now tables) t e k (x .state) ≡ false) (rowsIn i (now rows)) × (asksOf (now tables) t e k (getD (now rows) (i * 2) 0) ≡ true) × AllStamped (now tables) (now want) t (rowsIn n (now rows)) ⌝ }
-    ensures { λ r. ⌜ Seen (now (tables .entry)) t (passOf (now (tables .entry)) t e k (read (n * 2) (now (rows .entry)) (now (weights .entry)))) r (now (rows .exit)) (now (weights .exit)) (now (want .exit)) ⌝ }
+    requires { ⌜ Within t e k × Small (now tables) × Ways (now tables) ⌝ }
+    requires { ⌜ (i < n) × (n * 2 < length (now rows)) × Every (λ x. asksOf (now tables) t e k (x .state) ≡ false) (rowsIn i (now rows)) × (asksOf (now tables) t e k (getD (now rows) (i * 2) 0) ≡ true) ⌝ }
+    requires { ⌜ Flagged (now notes) × Noted (now tables) t (now notes) (rowsIn n (now rows)) × (u ≡ getD (now notes) (k * 128 + e) 0) ⌝ }
+    ensures { λ r. ⌜ Seen (now (tables .entry)) t (passOf (now (tables .entry)) t e k (read (n * 2) (now (rows .entry)) (now (weights .entry)))) r (now (rows .exit)) (now (weights .exit)) (now (notes .exit)) ⌝ }
 {
     let s = rows[i * 2];
     let q = asking::assign(tables, t, e, k, s);
-    let z = serving::pass(rows, n, i, tmp, tables, met, held, entering, q);
+    let z = serving::pass(rows, n, i, tmp, tables, met, held, entering, u, q);
     let _x = arrive(tables, entering, z.entering, weights, q);
-    let _y = note(tables, want, q.stands, t);
+    let _y = settle(tables, notes, q, s / 4096 % 128, z.moved);
     z.place
 }
 
-// The pass of train k for e, where one of its rows may ask.
+// No row of the pair i waits.
+pub fn dismiss(notes: &mut [u64], i: usize) -> usize
+    requires { ⌜ (length (now notes) ≡ 6272) × (i < 1024) ⌝ }
+    ensures { λ r. ⌜ now (notes .exit) ≡ set (set (now (notes .entry)) i 0) (1152 + i) 0 ⌝ }
+{
+    notes[i] = 0;
+    notes[1152 + i] = 0;
+    i
+}
+
+// The pass of train k for e, where a row of the pair was stirred.
 pub fn visit(
     rows: &mut [u64],
     w: usize,
@@ -93,41 +119,45 @@ pub fn visit(
     met: &mut [u64],
     held: &mut [u64],
     entering: &mut [u64],
-    want: &mut [u64],
+    notes: &mut [u64],
     weights: &mut [u64],
     t: u64,
     e: u64,
     k: u64,
 ) -> usize
     requires { ⌜ Lent (now tables) (now rows) (now tmp) (now met) (now held) (now entering) ⌝ }
-    requires { ⌜ Within t e k × Small (now tables) ⌝ }
-    requires { ⌜ Kept w (now rows) × Stamps (now tables) (now want) t w (now rows) ⌝ }
-    ensures { λ r. ⌜ Seen (now (tables .entry)) t (passOf (now (tables .entry)) t e k (read w (now (rows .entry)) (now (weights .entry)))) r (now (rows .exit)) (now (weights .exit)) (now (want .exit)) ⌝ }
+    requires { ⌜ Within t e k × Small (now tables) × Ways (now tables) ⌝ }
+    requires { ⌜ Kept w (now rows) × Flagged (now notes) × (w < length (now rows) → Noted (now tables) t (now notes) (rowsOf (take w (now rows)))) ⌝ }
+    ensures { λ r. ⌜ Seen (now (tables .entry)) t (passOf (now (tables .entry)) t e k (read w (now (rows .entry)) (now (weights .entry)))) r (now (rows .exit)) (now (weights .exit)) (now (notes .exit)) ⌝ }
 {
     if w == rows.len() {
         return w;
     }
-    if rows::idle(want, k * 128 + e, t + 1) {
+    let i = (k * 128 + e) as usize;
+    let u = notes[i];
+    if u == 0 {
         return w;
     }
     let n = w / 2;
-    let i = asking::first(rows, n, tables, t, e, k);
-    if i == n {
+    let f = asking::first(rows, n, tables, t, e, k);
+    if f == n {
+        let _x = dismiss(notes, i);
         return w;
     }
     served(
         rows,
         n,
-        i,
+        f,
         tmp,
         tables,
         met,
         held,
         entering,
-        want,
+        notes,
         weights,
         t,
         e,
         k,
+        u,
     )
 }

@@ -201,7 +201,7 @@ pub record TellsAll (k : ℕ) (N : List ℕ) (e c : ℕ) (M : List ℕ) : Type 0
   pub asked : (j : ℕ) → askedIn M j ≡ askedIn N j
   pub told : (j : ℕ) → j < k → Told (stirIn M) (askedIn M) (spot j e) c
 
-told-keeps : {N M : List ℕ} (i c : ℕ) → Grows N M → ((j : ℕ) → askedIn M j ≡ askedIn N j) → Told (stirIn N) (askedIn N) i c → Told (stirIn M) (askedIn M) i c
+pub told-keeps : {N M : List ℕ} (i c : ℕ) → Grows N M → ((j : ℕ) → askedIn M j ≡ askedIn N j) → Told (stirIn N) (askedIn N) i c → Told (stirIn M) (askedIn M) i c
 told-keeps i c g a (nobody z) = nobody (a i ∙ z)
 told-keeps {N} {M} i c g a (told z) = told (sub-trans c (stirIn N i) (stirIn M i) z (g .stir i))
 

@@ -1,0 +1,37 @@
+-- What the rows after a pass show: states from before, the new standing state, and the block. Assumes nothing.
+use mathlib.Core.Bool.{Bool, true, false, cond}
+use mathlib.Core.List.{List, [], _∷_}
+use Prim.Native.Nat.{ℕ}
+use Rattle.rules.specs.Lists.{one, each}
+use Rattle.simulation.specs.Lists.{Every, every-append, every-each, every-map, every-all}
+use Rattle.cut.specs.Cut.{carried, heldOf}
+use Rattle.rows.specs.Rows.{Row, row, heldRows, enteredRows}
+use Rattle.asking.specs.declared.Job.{Job}
+use Rattle.asking.specs.Ask.{askingOf, metFor}
+use Rattle.serving.specs.Pass.{holdRow, coversOf, passedOf}
+
+hold-states : (P : ℕ → Type 0) (T : List ℕ) (q : Job) (es : List ℕ) (r : Row) → P (r .state) → Every (λ x. P (x .state)) (holdRow T q es r)
+unfolding holdRow heldRows
+hold-states P T q es r h = go (askingOf T q r)
+  where
+    go : (z : Bool) → Every (λ x. P (x .state)) (cond z (heldRows (r .state) (heldOf (carried (q .cap) es 0 (r .cover)))) (r ∷ []))
+    go true = every-map (λ c. Unit) (λ x. P (x .state)) (λ c. row (r .state) c) (λ c u. h) (heldOf (carried (q .cap) es 0 (r .cover)))
+        (every-all (λ c. Unit) (λ c. tt) (heldOf (carried (q .cap) es 0 (r .cover))))
+    go false = (h, tt)
+
+entered-states : (P : ℕ → Type 0) (s b : ℕ) (two : Bool) (cs : List ℕ) → P s → P b → Every (λ x. P (x .state)) (enteredRows s b two cs)
+unfolding enteredRows
+entered-states P s b two cs h k =
+    every-each (λ c. Unit) (λ x. P (x .state)) (λ c. row s c ∷ one two (row b c)) (λ c u. (h, go c two)) cs (every-all (λ c. Unit) (λ c. tt) cs)
+  where
+    go : (c : ℕ) (z : Bool) → Every (λ x. P (x .state)) (one z (row b c))
+    go c true = (k, tt)
+    go c false = tt
+
+-- the rows after a pass show states from before, the new standing state, and the block
+pub passed-states : (P : ℕ → Type 0) (T : List ℕ) (q : Job) (l : List Row) → P (q .stands) → P (q .blocks) → Every (λ x. P (x .state)) l → Every (λ x. P (x .state)) (passedOf T q l)
+unfolding passedOf
+passed-states P T q l h k all =
+    every-append (λ x. P (x .state)) (each (holdRow T q (metFor q l)) l) (enteredRows (q .stands) (q .blocks) (q .two) (coversOf T q l))
+    (every-each (λ x. P (x .state)) (λ x. P (x .state)) (holdRow T q (metFor q l)) (λ r j. hold-states P T q (metFor q l) r j) l all)
+    (entered-states P (q .stands) (q .blocks) (q .two) (coversOf T q l) h k)
