@@ -1,4 +1,5 @@
 pub mod Visit
+pub mod Arriving
 pub mod States
 pub mod Settling
 pub mod Visiting
