@@ -1,7 +1,9 @@
 -- The passes of a minute on rows of two words and the words T that the runs look up. Assumes nothing: these are definitions.
 use mathlib.Core.List.{List}
 use Prim.Native.Nat.{ℕ, zero, suc, _+_}
-use lib.ListN.{getD}
+use lib.ListN.{getD, set}
+use lib.Bits.{bitOr}
+use Rattle.waiting.specs.Calm.{spot}
 use Rattle.visiting.specs.Visit.{Outcome, passOf}
 
 -- step after step, the first n
@@ -16,3 +18,14 @@ elementOf T t e n o = upTo (λ j. passOf T t e (getD T (8 + j) 0)) n o
 -- the passes for the first m elements
 unfoldable pub elementsOf : List ℕ → ℕ → ℕ → Outcome → Outcome
 elementsOf T t m o = upTo (λ e. elementOf T t e (getD T 0 0)) m o
+
+-- ---- what is noted
+
+-- all that stirred the pairs of the first k trains with the element e
+unfoldable pub unionOf : ℕ → List ℕ → ℕ → ℕ
+unionOf zero N e = 0
+unionOf (suc k) N e = bitOr (unionOf k N e) (getD N (spot k e) 0)
+
+-- the element's word says whether one of its pairs is stirred
+unfoldable pub tidiedOf : List ℕ → ℕ → List ℕ
+tidiedOf N e = set N (1024 + e) (unionOf 8 N e)

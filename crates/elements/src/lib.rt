@@ -1,14 +1,16 @@
 // The passes of one minute: for each element the trains in order, for all elements the way out last.
 ghost use mathlib.Core.Path.{_≡_};
 ghost use Prim.Native.Nat.{_≤_, _<_};
-ghost use lib.ListN.{getD};
+ghost use lib.ListN.{length, take, getD};
+ghost use Rattle.rows.specs.Rows.{rowsOf};
 ghost use Rattle.weigh.specs.Weigh.{Small};
 ghost use Rattle.serving.specs.Pass.{Lent};
-ghost use Rattle.visiting.specs.Visit.{read, Kept, Stamps, Seen};
-ghost use Rattle.elements.specs.Elements.{elementOf, elementsOf};
+ghost use Rattle.waiting.specs.Notes.{Flagged};
+ghost use Rattle.visiting.specs.Visit.{read, Kept, Ways, Noted, Seen};
+ghost use Rattle.elements.specs.Elements.{elementOf, elementsOf, unionOf, tidiedOf};
 
 // The passes for e of one train after the other, in order.
-pub fn element(
+pub fn trains(
     rows: &mut [u64],
     w: usize,
     tmp: &mut [u64],
@@ -16,19 +18,16 @@ pub fn element(
     met: &mut [u64],
     held: &mut [u64],
     entering: &mut [u64],
-    want: &mut [u64],
+    notes: &mut [u64],
     weights: &mut [u64],
     t: u64,
     e: u64,
 ) -> usize
     requires { ⌜ Lent (now tables) (now rows) (now tmp) (now met) (now held) (now entering) ⌝ }
-    requires { ⌜ (t < 720) × (e ≤ 64) × Small (now tables) ⌝ }
-    requires { ⌜ Kept w (now rows) × Stamps (now tables) (now want) t w (now rows) ⌝ }
-    ensures { λ r. ⌜ Seen (now (tables .entry)) t (elementOf (now (tables .entry)) t e (getD (now (tables .entry)) 0 0) (read w (now (rows .entry)) (now (weights .entry)))) r (now (rows .exit)) (now (weights .exit)) (now (want .exit)) ⌝ }
+    requires { ⌜ (t < 720) × (e ≤ 64) × Small (now tables) × Ways (now tables) ⌝ }
+    requires { ⌜ Kept w (now rows) × Flagged (now notes) × (w < length (now rows) → Noted (now tables) t (now notes) (rowsOf (take w (now rows)))) ⌝ }
+    ensures { λ r. ⌜ Seen (now (tables .entry)) t (elementOf (now (tables .entry)) t e (getD (now (tables .entry)) 0 0) (read w (now (rows .entry)) (now (weights .entry)))) r (now (rows .exit)) (now (weights .exit)) (now (notes .exit)) ⌝ }
 {
-    if rows::idle(want, 1024 + e, t + 1) {
-        return w;
-    }
     let n = rows::at(tables, 0);
     let mut j = 0;
     let mut v = w;
@@ -42,7 +41,7 @@ pub fn element(
             met,
             held,
             entering,
-            want,
+            notes,
             weights,
             t,
             e,
@@ -50,6 +49,57 @@ pub fn element(
         );
         j += 1;
     }
+    v
+}
+
+// All that stirred the pairs of the element e.
+pub fn union(notes: &[u64], e: usize) -> u64
+    requires { ⌜ (length (now notes) ≡ 6272) × (e < 128) ⌝ }
+    ensures { λ r. ⌜ r ≡ unionOf 8 (now (notes .entry)) e ⌝ }
+{
+    let mut k = 0;
+    let mut s = 0;
+    while k < 8 {
+        s = s | notes[k * 128 + e];
+        k += 1;
+    }
+    s
+}
+
+// The word of the element e says whether one of its pairs is stirred.
+pub fn tidy(notes: &mut [u64], e: usize) -> usize
+    requires { ⌜ (length (now notes) ≡ 6272) × (e < 128) ⌝ }
+    ensures { λ r. ⌜ now (notes .exit) ≡ tidiedOf (now (notes .entry)) e ⌝ }
+{
+    let s = union(notes, e);
+    notes[1024 + e] = s;
+    e
+}
+
+// The passes for e, if one of its pairs is stirred.
+pub fn element(
+    rows: &mut [u64],
+    w: usize,
+    tmp: &mut [u64],
+    tables: &[u64],
+    met: &mut [u64],
+    held: &mut [u64],
+    entering: &mut [u64],
+    notes: &mut [u64],
+    weights: &mut [u64],
+    t: u64,
+    e: u64,
+) -> usize
+    requires { ⌜ Lent (now tables) (now rows) (now tmp) (now met) (now held) (now entering) ⌝ }
+    requires { ⌜ (t < 720) × (e ≤ 64) × Small (now tables) × Ways (now tables) ⌝ }
+    requires { ⌜ Kept w (now rows) × Flagged (now notes) × (w < length (now rows) → Noted (now tables) t (now notes) (rowsOf (take w (now rows)))) ⌝ }
+    ensures { λ r. ⌜ Seen (now (tables .entry)) t (elementOf (now (tables .entry)) t e (getD (now (tables .entry)) 0 0) (read w (now (rows .entry)) (now (weights .entry)))) r (now (rows .exit)) (now (weights .exit)) (now (notes .exit)) ⌝ }
+{
+    if notes[1024 + e as usize] == 0 {
+        return w;
+    }
+    let v = trains(rows, w, tmp, tables, met, held, entering, notes, weights, t, e);
+    let _x = tidy(notes, e as usize);
     v
 }
 
@@ -62,14 +112,14 @@ pub fn elements(
     met: &mut [u64],
     held: &mut [u64],
     entering: &mut [u64],
-    want: &mut [u64],
+    notes: &mut [u64],
     weights: &mut [u64],
     t: u64,
 ) -> usize
     requires { ⌜ Lent (now tables) (now rows) (now tmp) (now met) (now held) (now entering) ⌝ }
-    requires { ⌜ (t < 720) × Small (now tables) ⌝ }
-    requires { ⌜ Kept w (now rows) × Stamps (now tables) (now want) t w (now rows) ⌝ }
-    ensures { λ r. ⌜ (read r (now (rows .exit)) (now (weights .exit)) ≡ elementsOf (now (tables .entry)) t 65 (read w (now (rows .entry)) (now (weights .entry)))) × Kept r (now (rows .exit)) ⌝ }
+    requires { ⌜ (t < 720) × Small (now tables) × Ways (now tables) ⌝ }
+    requires { ⌜ Kept w (now rows) × Flagged (now notes) × (w < length (now rows) → Noted (now tables) t (now notes) (rowsOf (take w (now rows)))) ⌝ }
+    ensures { λ r. ⌜ Seen (now (tables .entry)) t (elementsOf (now (tables .entry)) t 65 (read w (now (rows .entry)) (now (weights .entry)))) r (now (rows .exit)) (now (weights .exit)) (now (notes .exit)) ⌝ }
 {
     let mut e = 0;
     let mut v = w;
@@ -82,7 +132,7 @@ pub fn elements(
             met,
             held,
             entering,
-            want,
+            notes,
             weights,
             t,
             e,

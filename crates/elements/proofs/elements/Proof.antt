@@ -1,5 +1,4 @@
 -- `elements::elements` meets its contract. The invariant: the first e elements have been visited. Assumes nothing.
-use borrow.Author.Needs.{needs}
 use mathlib.Core.Path.{_≡_, refl, sym, ap, _∙_}
 use Prim.Native.Nat.{_-_, _≤_}
 use native.Mathlib.Omega.{arith}
@@ -8,6 +7,7 @@ use Rattle.visiting.specs.Visit.{read, Seen}
 use Rattle.elements.specs.Elements.{elementOf, elementsOf}
 use Rattle.visiting.specs.Visiting.{unseen}
 use Rattle.elements.specs.Turning.{elements-none, elements-more, lent-same}
+use borrow.Author.Needs.{needs}
 use Rattle.elements.proofs.elements.Statement.{statement}
 use Rattle.elements.proofs.elements.Tie as tie
 use Rattle.elements.proofs.elements.Reads as reads
@@ -15,23 +15,26 @@ use Rattle.elements.proofs.elements.Lts as lts
 use Rattle.elements.proofs.element.Reads as element-reads
 
 abbrev Inv-loop : tie.InvT-loop
-Inv-loop rows₀ w tmp₀ tables met₀ held₀ entering₀ want₀ weights₀ t e₀ v₀ rows tmp met held entering want weights e v = (e ≤ 65) × Seen tables t (elementsOf tables t e (read w rows₀ weights₀)) v rows weights want × (length rows ≡ length rows₀) × (length tmp ≡ length tmp₀) × (length met ≡ length met₀) × (length held ≡ length held₀) × (length entering ≡ length entering₀) × (length want ≡ length want₀) × (length weights ≡ length weights₀)
+Inv-loop rows₀ w tmp₀ tables met₀ held₀ entering₀ notes₀ weights₀ t e₀ v₀ rows tmp met held entering notes weights e v =
+    (e ≤ 65) × Seen tables t (elementsOf tables t e (read w rows₀ weights₀)) v rows weights notes
+    × (length rows ≡ length rows₀) × (length tmp ≡ length tmp₀) × (length met ≡ length met₀) × (length held ≡ length held₀)
+    × (length entering ≡ length entering₀) × (length notes ≡ length notes₀) × (length weights ≡ length weights₀)
 
 abbrev μ-loop : tie.MeasureT-loop
-μ-loop rows₀ w tmp₀ tables met₀ held₀ entering₀ want₀ weights₀ t e₀ v₀ rows tmp met held entering want weights e v = 65 - e
+μ-loop rows₀ w tmp₀ tables met₀ held₀ entering₀ notes₀ weights₀ t e₀ v₀ rows tmp met held entering notes weights e v = 65 - e
 
 loop-holds : tie.Need-loop-holds Inv-loop μ-loop
-loop-holds c =
+loop-holds c = 
     let s = c .before .before .before .before .before .before .before .before .args in
-    let p = c .before .before .before .before .before .before .before .before .pre in
-    (omega arith, unseen (s .tables .now) (s .t) 0 (s .w) (s .rows .now) (s .weights .now) (s .want .now) (p .1 .1 .0) (p .1 .1 .1) (sym (elements-none (s .tables .now) (s .t) (read (s .w) (s .rows .now) (s .weights .now)))), refl, refl, refl, refl, refl, refl, refl)
+    let p = c .before .before .before .before .before .before .before .before .pre .1 .1 in
+    (omega arith, unseen (s .tables .now) (s .t) 0 (s .w) (s .rows .now) (s .weights .now) (s .notes .now) (p .0) (p .1) (p .2) (sym (elements-none (s .tables .now) (s .t) (read (s .w) (s .rows .now) (s .weights .now)))), refl, refl, refl, refl, refl, refl, refl)
 
 element-requires : tie.Need-element-requires Inv-loop μ-loop
-element-requires c κs =
+element-requires c κs = 
     let p = c .before .before .before .before .before .before .before .before .before .before .before .before .before .before .before .before .before .pre in
     let l = c .before .before .before .before .before .before .before .before .loop in (
       lent-same (l .rows) (l .tmp) (l .met) (l .held) (l .entering) (p .0) (l .inv .2) (l .inv .3) (l .inv .4) (l .inv .5) (l .inv .6),
-      ((p .1 .0 .0, omega (arith, c .before .before .before .before .before .before .before .loop-test .taken), p .1 .0 .1), (l .inv .1 .kept, l .inv .1 .stamps)),
+      ((p .1 .0 .0, omega (arith, c .before .before .before .before .before .before .before .loop-test .taken), p .1 .0 .1, p .1 .0 .2), (l .inv .1 .kept, l .inv .1 .flagged, l .inv .1 .noted)),
     )
 
 add-e : tie.Need-add-e Inv-loop μ-loop
@@ -41,7 +44,7 @@ loop-less : tie.Need-loop-less Inv-loop μ-loop
 loop-less c = search needs
 
 loop-again : tie.Need-loop-again Inv-loop μ-loop
-loop-again c =
+loop-again c = 
     let s = c .before .before .before .before .before .before .before .before .before .before .before .before .before .before .before .before .before .before .before .before .before .before .before .before .before .before .before .before .before .before .before .before .args in
     let l = c .before .before .before .before .before .before .before .before .before .before .before .before .before .before .before .before .before .before .before .before .before .before .before .loop in
     let T = s .tables .now in
@@ -52,14 +55,15 @@ loop-again c =
             ∙ ap (elementOf T (s .t) (l .e) (getD T 0 0)) (l .inv .1 .outcome)
             ∙ sym (elements-more T (s .t) (l .e) (read (s .w) (s .rows .now) (s .weights .now)));
         kept = v .kept;
-        stamps = v .stamps;
+        flagged = v .flagged;
+        noted = v .noted;
       },
       omega (arith, l .inv .2, c .before .before .before .before .before .before .before .before .before .before .before .before .before .rows),
       omega (arith, l .inv .3, c .before .before .before .before .before .before .before .before .before .before .before .tmp),
       omega (arith, l .inv .4, c .before .before .before .before .before .before .before .before .before .met),
       omega (arith, l .inv .5, c .before .before .before .before .before .before .before .held),
       omega (arith, l .inv .6, c .before .before .before .before .before .entering),
-      omega (arith, l .inv .7, c .before .before .before .want),
+      omega (arith, l .inv .7, c .before .before .before .notes),
       omega (arith, l .inv .8, c .before .weights),
     )
 
@@ -85,10 +89,10 @@ same-length-7 : tie.Need-same-length-7 Inv-loop μ-loop
 same-length-7 c = search needs
 
 returns : tie.Need-returns Inv-loop μ-loop
-returns c =
+returns c = 
     let l = c .before .loop in
     let e : l .e ≡ 65 = omega (arith, l .inv .0, c .loop-test .left) in
-    (rw e at (l .inv .1 .outcome), l .inv .1 .kept)
+    rw e at (l .inv .1)
 
 pub elements-spec : {M : Type 1} → statement M
 elements-spec =
