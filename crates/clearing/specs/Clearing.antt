@@ -1,0 +1,220 @@
+-- Laws of the start of a minute: what blocks leave is told, who is due waits, and where no row shows such a minute nothing changes. Assumes nothing.
+use mathlib.Core.Path.{_≡_, refl, ap, sym, _∙_, subst}
+use mathlib.Core.Bool.{Bool, true, false, not, cond, false≢true}
+use mathlib.Core.List.{List, [], _∷_, _++_}
+use Prim.Native.Nat.{ℕ, _+_, _*_, _/_, _%_, _≤_, _<_}
+use native.Mathlib.Omega.{arith}
+use borrow.Author.Tests.{eqb-true, eqb-false, eq-eqb, ltb-true, ltb-false}
+use lib.ListN.{length, take, getD}
+use lib.Seq.{slice}
+use lib.Dec.{eqb, ltb}
+use Rattle.rules.specs.Lists.{one, each, keep}
+use Rattle.simulation.specs.Lists.{Every, every-append, every-left, every-right, every-more, every-keep, every-each, every-one, each-every, each-self}
+use Rattle.rows.specs.Rows.{Row, rowsOf, rowsIn, rowAt, endedOf, sweptOf}
+use Rattle.rows.specs.Written.{rowsIn-more, rows-split}
+use Rattle.quiet.specs.Parts.{Sub, sub-trans}
+use Rattle.asking.specs.Ask.{dueOf}
+use Rattle.waiting.specs.Calm.{waitsOf, spot, spotOf, Settled, Calm, Told}
+use Rattle.waiting.specs.Stirred.{due-waits, calm-swept, calm-later}
+use Rattle.waiting.specs.Notes.{stirIn, askedIn, toldAll, freshOf, Flagged, Grows}
+use Rattle.waiting.specs.Telling.{grows-same, grows-trans, told-keeps, TellsAll, told-all, Freshens, fresh-law}
+use Rattle.visiting.specs.Visit.{wakeOf, Ways, Kept, Noted}
+use Rattle.visiting.specs.Settling.{spot-low}
+use Rattle.clearing.specs.Clear.{leftOf, markedOf, Known, Leaves, Heard, Marks, Shown, Due, Cleared}
+
+-- ---- blocks that go
+
+pub leaves-none : (t : ℕ) (N : List ℕ) → Flagged N → Leaves t [] N N
+leaves-none t N F = record { grows = grows-same N; flagged = F; asked = λ i. refl; known = tt }
+
+module _ (t s c : ℕ) (N : List ℕ) (F : Flagged N) where
+  left-one : Grows N (leftOf t s c N) × Flagged (leftOf t s c N) × ((i : ℕ) → askedIn (leftOf t s c N) i ≡ askedIn N i)
+      × (endedOf t s ≡ true → (k : ℕ) → k < 8 → Told (stirIn (leftOf t s c N)) (askedIn (leftOf t s c N)) (spot k (s / 4096 % 128)) c)
+  unfolding leftOf
+  left-one = go (endedOf t s) refl
+    where
+      all : TellsAll 8 N (s / 4096 % 128) c (toldAll 8 N (s / 4096 % 128) c)
+      all = told-all 8 N (s / 4096 % 128) c (omega arith) (omega arith) F
+
+      go : (b : Bool) → endedOf t s ≡ b → Grows N (cond b (toldAll 8 N (s / 4096 % 128) c) N) × Flagged (cond b (toldAll 8 N (s / 4096 % 128) c) N)
+          × ((i : ℕ) → askedIn (cond b (toldAll 8 N (s / 4096 % 128) c) N) i ≡ askedIn N i)
+          × (b ≡ true → (k : ℕ) → k < 8 → Told (stirIn (cond b (toldAll 8 N (s / 4096 % 128) c) N)) (askedIn (cond b (toldAll 8 N (s / 4096 % 128) c) N)) (spot k (s / 4096 % 128)) c)
+      go true e = (all .grows, all .flagged, all .asked, λ z. all .told)
+      go false e = (grows-same N, F, λ i. refl, λ z. absurd (false≢true z))
+
+pub leaves-more : (t i : ℕ) (l N M : List ℕ) → i * 2 + 2 ≤ length l → Leaves t (rowsIn i l) N M
+    → Leaves t (rowsIn (i + 1) l) N (leftOf t (getD l (i * 2) 0) (getD l (i * 2 + 1) 0) M)
+leaves-more t i l N M long h =
+    let one = left-one t (getD l (i * 2) 0) (getD l (i * 2 + 1) 0) M (h .flagged) in
+    let P : List ℕ = leftOf t (getD l (i * 2) 0) (getD l (i * 2 + 1) 0) M in
+    record {
+      grows = grows-trans (h .grows) (one .0);
+      flagged = one .1;
+      asked = λ j. one .2 j ∙ h .asked j;
+      known = subst (Every (Known t P)) (sym (rowsIn-more i l long))
+          (every-append (Known t P) (rowsIn i l) (rowAt l i ∷ [])
+          (every-more (Known t M) (Known t P) (λ r k e j m. told-keeps (spot j (r .state / 4096 % 128)) (r .cover) (one .0) (one .2) (k e j m)) (rowsIn i l) (h .known))
+          (one .3, tt));
+    }
+
+-- ---- rows that are due
+
+pub marks-none : (T : List ℕ) (t : ℕ) (N : List ℕ) → Flagged N → Marks T t [] N N
+marks-none T t N F = record { grows = grows-same N; flagged = F; heard = tt }
+
+-- a state that waits from t on shows t
+shows-due : (t s : ℕ) → waitsOf t s ≡ false → waitsOf (t + 1) s ≡ true → s % 4096 ≡ t
+unfolding waitsOf
+shows-due t s h k = go (eqb (s / 2048 % 2) 1) refl h k
+  where
+    go : (b : Bool) → eqb (s / 2048 % 2) 1 ≡ b → cond b false (ltb (s % 2048) t) ≡ false → cond b false (ltb (s % 2048) (t + 1)) ≡ true → s % 4096 ≡ t
+    go true e x y = absurd (false≢true y)
+    go false e x y =
+        let a : s / 2048 % 2 ≡ 1 → ⊥ = eqb-false (s / 2048 % 2) 1 e in
+        let p : t ≤ s % 2048 = ltb-false (s % 2048) t x in
+        let q : s % 2048 < t + 1 = ltb-true (s % 2048) (t + 1) y in
+        omega arith
+
+module _ (T : List ℕ) (t s c : ℕ) (N : List ℕ) (F : Flagged N) (ways : Ways T) (train : s / 524288 < 8) where
+  mark-one : Grows N (markedOf T t s c N) × Flagged (markedOf T t s c N)
+      × (waitsOf t s ≡ false → waitsOf (t + 1) s ≡ true → (askedIn (markedOf T t s c N) (spotOf T s) ≡ 0 → ⊥) × Sub c (stirIn (markedOf T t s c N) (spotOf T s)))
+  unfolding markedOf wakeOf
+  mark-one = go (eqb (s % 4096) t) (dueOf t s) refl refl
+    where
+      fresh : Freshens N (spotOf T s) c (freshOf N (spotOf T s) c)
+      fresh = fresh-law N (spotOf T s) c (spot-low T s ways train) F
+
+      M : Bool → Bool → List ℕ
+      M a b = cond a (cond b (freshOf N (spotOf T s) c) N) N
+
+      go : (a b : Bool) → eqb (s % 4096) t ≡ a → dueOf t s ≡ b → Grows N (cond a (cond b (freshOf N (spotOf T s) c) N) N) × Flagged (cond a (cond b (freshOf N (spotOf T s) c) N) N)
+          × (waitsOf t s ≡ false → waitsOf (t + 1) s ≡ true → (askedIn (cond a (cond b (freshOf N (spotOf T s) c) N) N) (spotOf T s) ≡ 0 → ⊥) × Sub c (stirIn (cond a (cond b (freshOf N (spotOf T s) c) N) N) (spotOf T s)))
+      go true true e f = (fresh .grows, fresh .flagged, λ x y. (fresh .asked, fresh .stir))
+      go true false e f = (grows-same N, F, λ x y. absurd (false≢true (sym f ∙ due-waits t s ∙ y)))
+      go false b e f = (grows-same N, F, λ x y. absurd (eqb-false (s % 4096) t e (shows-due t s x y)))
+
+pub marks-more : (T : List ℕ) (t i : ℕ) (l N M : List ℕ) → i * 2 + 2 ≤ length l → Ways T → getD l (i * 2) 0 / 524288 < 8 → Marks T t (rowsIn i l) N M
+    → Marks T t (rowsIn (i + 1) l) N (markedOf T t (getD l (i * 2) 0) (getD l (i * 2 + 1) 0) M)
+marks-more T t i l N M long ways train h =
+    let one = mark-one T t (getD l (i * 2) 0) (getD l (i * 2 + 1) 0) M (h .flagged) ways train in
+    let P : List ℕ = markedOf T t (getD l (i * 2) 0) (getD l (i * 2 + 1) 0) M in
+    record {
+      grows = grows-trans (h .grows) (one .0);
+      flagged = one .1;
+      heard = subst (Every (Heard T t P)) (sym (rowsIn-more i l long))
+          (every-append (Heard T t P) (rowsIn i l) (rowAt l i ∷ [])
+          (every-more (Heard T t M) (Heard T t P)
+          (λ r k x y. (λ z. k x y .0 (one .0 .asked (spotOf T (r .state)) z), sub-trans (r .cover) (stirIn M (spotOf T (r .state))) (stirIn P (spotOf T (r .state))) (k x y .1) (one .0 .stir (spotOf T (r .state))))) (rowsIn i l) (h .heard))
+          (one .2, tt));
+    }
+
+-- ---- the start of a minute
+
+-- where no row shows that it ended in the minute before, none goes
+pub clear-none : (T : List ℕ) (t : ℕ) (N : List ℕ) (l : List Row) → Due T t N l → getD N (4223 + t) 0 ≡ 0 → sweptOf t l ≡ l
+unfolding sweptOf
+clear-none T t N l d z = go l (d .shown) (d .last)
+  where
+    go : (rs : List Row) → Every (Shown N) rs → Every (λ r. endedOf t (r .state) ≡ true → r .state % 4096 ≡ 2047 + t) rs → keep (λ r. not (endedOf t (r .state))) rs ≡ rs
+    go [] a b = refl
+    go (r ∷ rs) a b = by (endedOf t (r .state)) refl (go rs (a .1) (b .1))
+      where
+        by : (x : Bool) → endedOf t (r .state) ≡ x → keep (λ r. not (endedOf t (r .state))) rs ≡ rs → one (not x) r ++ keep (λ r. not (endedOf t (r .state))) rs ≡ r ∷ rs
+        by false e ih = ap (λ (y : List Row). r ∷ y) ih
+        by true e ih =
+            let i : 2176 + r .state % 4096 ≡ 4223 + t = omega (arith, b .0 e) in
+            absurd (a .0 (ap (λ (y : ℕ). getD N y 0) i ∙ z))
+
+pub clear-swept : (T : List ℕ) (t : ℕ) (N M : List ℕ) (l : List Row) → Due T t N l → Leaves t l N M → Due T t M (sweptOf t l)
+unfolding sweptOf
+clear-swept T t N M l d h = record {
+  calm = calm-swept T t t (stirIn N) (askedIn N) (stirIn M) (askedIn M) l (h .grows .stir) (h .grows .asked) (d .calm) (h .known);
+  shown = every-more (Shown N) (Shown M) (λ r k z. k (h .grows .minutes (r .state % 4096) (omega arith) z)) (sweptOf t l) (every-keep (Shown N) (λ r. not (endedOf t (r .state))) l (d .shown));
+  last = every-keep (λ r. endedOf t (r .state) ≡ true → r .state % 4096 ≡ 2047 + t) (λ r. not (endedOf t (r .state))) l (d .last);
+}
+
+-- of the rows that stay none has ended
+pub swept-current : (t : ℕ) (l : List Row) → Every (λ r. endedOf t (r .state) ≡ false) (sweptOf t l)
+unfolding sweptOf
+swept-current t [] = tt
+swept-current t (r ∷ l) = every-append (λ x. endedOf t (x .state) ≡ false) (one (not (endedOf t (r .state))) r) (keep (λ x. not (endedOf t (x .state))) l)
+    (every-one (λ x. endedOf t (x .state) ≡ false) (not (endedOf t (r .state))) r (λ h. go (endedOf t (r .state)) h)) (swept-current t l)
+  where
+    go : (b : Bool) → not b ≡ true → b ≡ false
+    go true h = sym h
+    go false h = refl
+
+module _ (T : List ℕ) (t : ℕ) (N : List ℕ) (l : List Row) (d : Due T t N l) (current : Every (λ r. endedOf t (r .state) ≡ false) l) where
+  -- where no row shows that it is due now, none is
+  pub wake-none : Flagged N → getD N (2176 + t) 0 ≡ 0 → Noted T t N l
+  wake-none F z = record {
+    calm = calm-later T t (stirIn N) (askedIn N) (stirIn N) (askedIn N) l (grows-same N .stir) (grows-same N .asked) (d .calm)
+        (every-more (Shown N) (Heard T t N) (λ r k x y. absurd (k (ap (λ (i : ℕ). getD N (2176 + i) 0) (shows-due t (r .state) x y) ∙ z))) l (d .shown));
+    shown = d .shown;
+    current = current;
+  }
+
+  pub wake-marked : (M : List ℕ) → Marks T t l N M → Noted T t M l
+  wake-marked M h = record {
+    calm = calm-later T t (stirIn N) (askedIn N) (stirIn M) (askedIn M) l (h .grows .stir) (h .grows .asked) (d .calm) (h .heard);
+    shown = every-more (Shown N) (Shown M) (λ r k z. k (h .grows .minutes (r .state % 4096) (omega arith) z)) l (d .shown);
+    current = current;
+  }
+
+-- ---- the next minute
+
+-- a block that has ended before t + 1 and not before t ended in t
+pub noted-due : (T : List ℕ) (t : ℕ) (N : List ℕ) (l : List Row) → Noted T t N l → Due T (t + 1) N l
+unfolding endedOf
+noted-due T t N l h = record {
+  calm = h .calm;
+  shown = h .shown;
+  last = every-more (λ r. endedOf t (r .state) ≡ false) (λ r. endedOf (t + 1) (r .state) ≡ true → r .state % 4096 ≡ 2047 + (t + 1)) (λ r k e. go (r .state) (eqb (r .state / 2048 % 2) 1) refl k e) l (h .current);
+}
+  where
+    go : (s : ℕ) (b : Bool) → eqb (s / 2048 % 2) 1 ≡ b → cond b (ltb (s % 2048) t) false ≡ false → cond b (ltb (s % 2048) (t + 1)) false ≡ true → s % 4096 ≡ 2047 + (t + 1)
+    go s true e x y =
+        let a : s / 2048 % 2 ≡ 1 = eqb-true (s / 2048 % 2) 1 e in
+        let p : t ≤ s % 2048 = ltb-false (s % 2048) t x in
+        let q : s % 2048 < t + 1 = ltb-true (s % 2048) (t + 1) y in
+        omega arith
+    go s false e x y = absurd (false≢true y)
+
+-- ---- in code
+
+pub row-of : (P : Row → Type 0) (i n : ℕ) (l : List ℕ) → i < n → n * 2 ≤ length l → Every P (rowsIn n l) → P (rowAt l i)
+row-of P i n l h k e =
+    every-right P (rowsIn i l) (rowAt l i ∷ [])
+    (subst (Every P) (rowsIn-more i l (omega arith)) (every-left P (rowsIn (i + 1) l) (rowsOf (slice ((i + 1) * 2) (n * 2) l)) (subst (Every P) (rows-split (i + 1) n l (omega arith) k) e)))
+    .0
+
+module _ (T : List ℕ) (t w : ℕ) (rows N : List ℕ) (kept : Kept w rows) (F : Flagged N) (d : Due T t N (rowsOf (take w rows))) where
+  abbrev l : List Row
+  l = rowsOf (take w rows)
+
+  pub clear-still : getD N (4223 + t) 0 ≡ 0 → Cleared T t (rowsOf (take w rows)) w w rows N
+  clear-still z =
+      let same : sweptOf t l ≡ l = clear-none T t N l d z in
+      record { less = omega arith; kept = kept; list = sym same; flagged = F; due = subst (Due T t N) (sym same) d }
+
+  pub clear-done : (m : ℕ) (rows′ M : List ℕ) → length rows′ ≡ length rows → Leaves t (rowsIn (w / 2) rows) N M → m ≤ w / 2 → rowsIn m rows′ ≡ sweptOf t (rowsIn (w / 2) rows)
+      → Cleared T t (rowsOf (take w rows)) w (m * 2) rows′ M
+  clear-done m rows′ M same h less swept =
+      let e : rowsIn (w / 2) rows ≡ l = ap (λ (y : ℕ). rowsOf (take y rows)) (kept .even) in
+      record {
+        less = omega arith;
+        kept = record { within = omega (arith, kept .within); even = omega arith };
+        list = swept ∙ ap (sweptOf t) e;
+        flagged = h .flagged;
+        due = clear-swept T t N M l d (subst (λ (x : List Row). Leaves t x N M) e h);
+      }
+
+  pub trains-low : Every (λ r. r .state / 524288 < 8) (rowsIn (w / 2) rows)
+  trains-low =
+      let e : rowsIn (w / 2) rows ≡ l = ap (λ (y : ℕ). rowsOf (take y rows)) (kept .even) in
+      subst (Every (λ r. r .state / 524288 < 8)) (sym e) (every-more (Settled T t (stirIn N) (askedIn N) l) (λ r. r .state / 524288 < 8) (λ r k. k .train) l (d .calm))
+
+  pub wake-done : Every (λ r. endedOf t (r .state) ≡ false) (rowsOf (take w rows)) → (M : List ℕ) → Marks T t (rowsIn (w / 2) rows) N M → Noted T t M (rowsOf (take w rows))
+  wake-done current M h =
+      let e : rowsIn (w / 2) rows ≡ l = ap (λ (y : ℕ). rowsOf (take y rows)) (kept .even) in
+      wake-marked T t N l d current M (subst (λ (x : List Row). Marks T t x N M) e h)

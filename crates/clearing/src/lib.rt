@@ -1,0 +1,88 @@
+// The start of a minute: the blocks that ended go, and rows that are due now wait; both only where a row shows such a minute.
+ghost use mathlib.Core.Path.{_≡_};
+ghost use mathlib.Core.Bool.{false};
+ghost use Prim.Native.Nat.{_+_, _*_, _/_, _≤_, _<_};
+ghost use lib.ListN.{length, take};
+ghost use Rattle.simulation.specs.Lists.{Every};
+ghost use Rattle.rows.specs.Rows.{rowsOf, rowsIn, endedOf};
+ghost use Rattle.waiting.specs.Notes.{Flagged};
+ghost use Rattle.visiting.specs.Visit.{Kept, Ways, Noted};
+ghost use Rattle.clearing.specs.Clear.{leftOf, markedOf, Leaves, Marks, Due, Cleared};
+
+// If s is the state of a block that ended before t, the pairs of its place are told of its cover c.
+pub fn leave(notes: &mut [u64], s: u64, c: u64, t: u64) -> usize
+    requires { ⌜ length (now notes) ≡ 6272 ⌝ }
+    ensures { λ r. ⌜ now (notes .exit) ≡ leftOf t s c (now (notes .entry)) ⌝ }
+{
+    if !rows::ended(s, t) {
+        return 0;
+    }
+    let e = s / 4096 % 128;
+    waiting::tell_all(notes, e as usize, c)
+}
+
+// The pairs of the places that blocks leave among the first n rows are told.
+pub fn leaving(rows: &[u64], n: usize, notes: &mut [u64], t: u64) -> usize
+    requires { ⌜ (n * 2 ≤ length (now rows)) × Flagged (now notes) ⌝ }
+    ensures { λ r. ⌜ Leaves t (rowsIn n (now (rows .entry))) (now (notes .entry)) (now (notes .exit)) ⌝ }
+{
+    let mut i = 0;
+    while i < n {
+        let s = rows[i * 2];
+        let c = rows[i * 2 + 1];
+        let _x = leave(notes, s, c, t);
+        i += 1;
+    }
+    i
+}
+
+// If s is a standing state that is due at t, its rows with covers among c wait now.
+pub fn call(tables: &[u64], notes: &mut [u64], s: u64, c: u64, t: u64) -> usize
+    requires { ⌜ (length (now notes) ≡ 6272) × Ways (now tables) × (s / 524288 < 8) ⌝ }
+    ensures { λ r. ⌜ now (notes .exit) ≡ markedOf (now (tables .entry)) t s c (now (notes .entry)) ⌝ }
+{
+    if s % 4096 != t {
+        return 0;
+    }
+    visiting::wake_due(tables, notes, s, t, c)
+}
+
+// The first n rows that are due at t wait now.
+pub fn mark(rows: &[u64], n: usize, tables: &[u64], notes: &mut [u64], t: u64) -> usize
+    requires { ⌜ (n * 2 ≤ length (now rows)) × Flagged (now notes) × Ways (now tables) × Every (λ r. r .state / 524288 < 8) (rowsIn n (now rows)) ⌝ }
+    ensures { λ r. ⌜ Marks (now (tables .entry)) t (rowsIn n (now (rows .entry))) (now (notes .entry)) (now (notes .exit)) ⌝ }
+{
+    let mut i = 0;
+    while i < n {
+        let s = rows[i * 2];
+        let c = rows[i * 2 + 1];
+        let _x = call(tables, notes, s, c, t);
+        i += 1;
+    }
+    i
+}
+
+// The blocks that end before t go from the first w words, if one shows such an end. Returns how many words are left.
+pub fn clear(rows: &mut [u64], w: usize, notes: &mut [u64], tables: &[u64], t: u64) -> usize
+    requires { ⌜ Kept w (now rows) × Flagged (now notes) × (t < 720) × Due (now tables) t (now notes) (rowsOf (take w (now rows))) ⌝ }
+    ensures { λ r. ⌜ Cleared (now (tables .entry)) t (rowsOf (take w (now (rows .entry)))) w r (now (rows .exit)) (now (notes .exit)) ⌝ }
+{
+    if notes[4223 + t as usize] == 0 {
+        return w;
+    }
+    let n = w / 2;
+    let _x = leaving(rows, n, notes, t);
+    let m = rows::sweep(rows, n, t);
+    m * 2
+}
+
+// The rows of the first w words that are due at t wait now, if one shows that minute.
+pub fn wake(rows: &[u64], w: usize, tables: &[u64], notes: &mut [u64], t: u64) -> usize
+    requires { ⌜ Kept w (now rows) × Flagged (now notes) × (t < 720) × Ways (now tables) × Due (now tables) t (now notes) (rowsOf (take w (now rows))) × Every (λ r. endedOf t (r .state) ≡ false) (rowsOf (take w (now rows))) ⌝ }
+    ensures { λ r. ⌜ Flagged (now (notes .exit)) × Noted (now (tables .entry)) t (now (notes .exit)) (rowsOf (take w (now (rows .entry)))) ⌝ }
+{
+    if notes[2176 + t as usize] == 0 {
+        return 0;
+    }
+    mark(rows, w / 2, tables, notes, t)
+}
