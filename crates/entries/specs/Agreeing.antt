@@ -99,7 +99,7 @@ module _ (C : Case) (sound : Sound C) (t : ℕ) (early : t ≤ C .head .lastMinu
 
         same-outcome : afterPass (tables C) (jobFor (tables C) t e k (map rowOf l)) (map rowOf l) v ≡ guard (C .head .room) (map rowOf l′) v′
         same-outcome =
-            ap₂ (λ (r : List Row) (u : List ℕ). guard (getD (tables C) 3 0) r u) (passed-is C sound t e k low few l a good) (arrived-is C sound t e k low train l a good v)
+            ap₂ (λ (r : List Row) (u : List ℕ). guard (getD (tables C) 3 0) r u) (passed-is C sound t e k low few l a good) (arrived-is C sound t e k low train l a good v (omega (arith, w .each k t few minute)))
             ∙ ap (λ (n : ℕ). guard n (map rowOf l′) v′) (table-room C)
 
         weighs : Weighs C v′ (pass C t (placeOf e) k s .arrived)

@@ -36,6 +36,7 @@ use Rattle.weigh.specs.Weigh.{setWeight, coverWeight, weightOf, broughtOf}
 use Rattle.asking.specs.Ask.{jobOf, metFor}
 use Rattle.serving.specs.Pass.{coversOf, enterRow}
 use Rattle.visiting.specs.Visit.{arrivedOf, jobFor}
+use Rattle.visiting.specs.Arriving.{arrived-any}
 use Rattle.entries.specs.Coded.{Coded, code-place, code-test, place-code}
 use Rattle.entries.specs.Lookups.{table-weight, table-last, table-trains}
 use Rattle.entries.specs.Encoded.{rowOf, Good, proper-packable, place-coded, meets-parts}
@@ -174,12 +175,13 @@ module _ (C : Case) where
           go false = refl
 
       -- the weights after the pass
-      pub arrived-is : (v : List ℕ)
+      pub arrived-is : (v : List ℕ) → getD v (k * 720 + t) 0 % 2 ^ 64 ≡ getD v (k * 720 + t) 0
           → arrivedOf (tables C) q (coversOf (tables C) q (map rowOf l)) v
           ≡ cond (same (placeOf e) (lastStation C k)) (set v (k * 720 + t) ((getD v (k * 720 + t) 0 + arrivedWeight C t (placeOf e) k l % 2 ^ 64) % 2 ^ 64)) v
-      unfolding arrivedOf broughtOf coversOf arrivedWeight jobOf
-      arrived-is v =
-          ap (λ (c : ℕ). cond (eqb e c) new v) (table-last C k train few)
+      unfolding broughtOf coversOf arrivedWeight jobOf
+      arrived-is v small =
+          arrived-any (tables C) q (each (enterRow (tables C) q (metFor q (map rowOf l))) (map rowOf l)) v small
+          ∙ ap (λ (c : ℕ). cond (eqb e c) new v) (table-last C k train few)
           ∙ ap (λ (b : Bool). cond b new v) (last-test e k low)
           ∙ go (same (placeOf e) (lastStation C k))
         where

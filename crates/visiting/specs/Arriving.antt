@@ -8,6 +8,8 @@ use native.Mathlib.Omega.{arith}
 use borrow.Author.Tests.{eq-eqb, ne-eqb}
 use lib.ListN.{length, take, getD, set}
 use lib.Dec.{eqb}
+use lib.Seq.{set-getD}
+use native.Mathlib.Nat.{add-zero}
 use Rattle.weigh.specs.Weigh.{broughtOf}
 use Rattle.asking.specs.declared.Job.{Job}
 use Rattle.visiting.specs.Visit.{arrivedOf}
@@ -44,3 +46,21 @@ module _ (T : List ℕ) (q : Job) (n : ℕ) (covers v : List ℕ) where
   pub arrived-there : {x : ℕ} → (n ≡ 0 → ⊥) → n ≤ length covers → q .place ≡ home → x ≡ broughtOf T (take n covers)
       → set v i ((getD v i 0 + x) % 2 ^ 64) ≡ arrivedOf T q (take n covers) v
   arrived-there h k e z = ap (λ (y : ℕ). set v i ((getD v i 0 + y) % 2 ^ 64)) z ∙ at-home (take n covers) (some covers n h k) e
+
+-- whatever entered, where the weight fits its word
+pub arrived-any : (T : List ℕ) (q : Job) (cs v : List ℕ) → getD v (q .train * 720 + q .minute) 0 % 2 ^ 64 ≡ getD v (q .train * 720 + q .minute) 0
+    → arrivedOf T q cs v
+    ≡ cond (eqb (q .place) (getD T (16 + q .train) 0)) (set v (q .train * 720 + q .minute) ((getD v (q .train * 720 + q .minute) 0 + broughtOf T cs) % 2 ^ 64)) v
+unfolding arrivedOf broughtOf
+arrived-any T q [] v small = sym (go (eqb (q .place) (getD T (16 + q .train) 0)))
+  where
+    x : ℕ
+    x = getD v (q .train * 720 + q .minute) 0
+
+    same : (x + 0) % 2 ^ 64 ≡ x
+    same = ap (λ (y : ℕ). y % 2 ^ 64) (add-zero x) ∙ small
+
+    go : (b : Bool) → cond b (set v (q .train * 720 + q .minute) ((x + 0) % 2 ^ 64)) v ≡ v
+    go true = ap (set v (q .train * 720 + q .minute)) same ∙ set-getD v (q .train * 720 + q .minute) 0
+    go false = refl
+arrived-any T q (c ∷ cs) v small = refl
