@@ -6,12 +6,11 @@ use Prim.Native.Nat.{ℕ, _+_, _*_, _/_, _%_, _≤_, _<_}
 use native.Mathlib.Omega.{arith}
 use borrow.Author.Tests.{eqb-true, eqb-false, eq-eqb, ltb-true, ltb-false}
 use lib.ListN.{length, take, getD}
-use lib.Seq.{slice}
 use lib.Dec.{eqb, ltb}
 use Rattle.rules.specs.Lists.{one, each, keep}
-use Rattle.simulation.specs.Lists.{Every, every-append, every-left, every-right, every-more, every-keep, every-each, every-one, each-every, each-self}
+use Rattle.simulation.specs.Lists.{Every, every-append, every-more, every-keep, every-each, every-one, each-every, each-self}
 use Rattle.rows.specs.Rows.{Row, rowsOf, rowsIn, rowAt, endedOf, sweptOf}
-use Rattle.rows.specs.Written.{rowsIn-more, rows-split}
+use Rattle.rows.specs.Written.{rowsIn-more}
 use Rattle.quiet.specs.Parts.{Sub, sub-trans}
 use Rattle.asking.specs.Ask.{dueOf}
 use Rattle.waiting.specs.Calm.{waitsOf, spot, spotOf, Settled, Calm, Told}
@@ -181,12 +180,6 @@ noted-due T t N l h = record {
     go s false e x y = absurd (false≢true y)
 
 -- ---- in code
-
-pub row-of : (P : Row → Type 0) (i n : ℕ) (l : List ℕ) → i < n → n * 2 ≤ length l → Every P (rowsIn n l) → P (rowAt l i)
-row-of P i n l h k e =
-    every-right P (rowsIn i l) (rowAt l i ∷ [])
-    (subst (Every P) (rowsIn-more i l (omega arith)) (every-left P (rowsIn (i + 1) l) (rowsOf (slice ((i + 1) * 2) (n * 2) l)) (subst (Every P) (rows-split (i + 1) n l (omega arith) k) e)))
-    .0
 
 module _ (T : List ℕ) (t w : ℕ) (rows N : List ℕ) (kept : Kept w rows) (F : Flagged N) (d : Due T t N (rowsOf (take w rows))) where
   abbrev l : List Row

@@ -100,6 +100,7 @@ module _ (N : List ℕ) (e : ℕ) (F : Flagged N) (low : e < 128) where
       settled r k = record {
         full = k .full;
         train = k .train;
+        place = k .place;
         known = λ w z. k .known w (sym (same-asked (spotOf T (r .state))) ∙ z);
         still = λ w. go (k .still w);
       }

@@ -8,3 +8,4 @@ pub mod Agreeing
 pub mod Started
 pub mod Answer
 pub mod Smallness
+pub mod Onward

@@ -1,6 +1,6 @@
 -- Laws of rows as words, and of what is written from a place on: what one call writes after another is what both write together.
 -- A write past the end changes nothing, so no law asks whether there is room. Assumes nothing.
-use mathlib.Core.Path.{_≡_, refl, ap, sym, _∙_}
+use mathlib.Core.Path.{_≡_, refl, ap, sym, _∙_, subst}
 use mathlib.Core.Bool.{Bool, true, false}
 use mathlib.Core.List.{List, [], _∷_, _++_, map, append-nil, append-assoc}
 use Prim.Native.Nat.{ℕ, zero, suc, _+_, _*_, min, _≤_, _<_}
@@ -9,7 +9,7 @@ use native.Mathlib.Omega.{arith}
 use lib.ListN.{length, take, drop, getD, set, length-append, take-append-drop}
 use lib.Seq.{sets, slice, length-sets, sets-eq, set-out, take-suc, take-take, length-take-le, take-append-seam, drop-append-le}
 use Rattle.rules.specs.Lists.{one, each}
-use Rattle.simulation.specs.Lists.{each-append, map-append}
+use Rattle.simulation.specs.Lists.{each-append, map-append, Every, every-left, every-right}
 use Rattle.cut.specs.Lists.{sets-append}
 use Rattle.rows.specs.Rows.{Row, row, rowsOf, words, rowsIn, rowAt, Put, heldRows, enteredRows}
 
@@ -94,6 +94,13 @@ rows-split i n l h k =
     ap rowsOf (sym (take-append-drop (i * 2) (take (n * 2) l)))
     ∙ ap (λ (z : List ℕ). rowsOf (z ++ drop (i * 2) (take (n * 2) l))) (take-take (i * 2) (n * 2) l (omega arith))
     ∙ rowsOf-append i (take (i * 2) l) (slice (i * 2) (n * 2) l) (length-take-le (i * 2) l (omega arith))
+
+-- a property of every row is one of row i
+pub row-of : (P : Row → Type 0) (i n : ℕ) (l : List ℕ) → i < n → n * 2 ≤ length l → Every P (rowsIn n l) → P (rowAt l i)
+row-of P i n l h k e =
+    every-right P (rowsIn i l) (rowAt l i ∷ [])
+    (subst (Every P) (rowsIn-more i l (omega arith)) (every-left P (rowsIn (i + 1) l) (rowsOf (slice ((i + 1) * 2) (n * 2) l)) (subst (Every P) (rows-split (i + 1) n l (omega arith) k) e)))
+    .0
 
 -- ---- what is written
 

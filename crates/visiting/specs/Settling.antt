@@ -156,10 +156,7 @@ module _ (T : List ℕ) (q : Job) (from moved : ℕ) (N : List ℕ) (F : Flagged
 
 -- ---- the job of a pass
 
-module _ (T : List ℕ) (t e k s : ℕ) (within : Within t e k) (small : Small T) (ways : Ways T) (asks : asksOf T t e k s ≡ true) where
-  abbrev job : Job
-  job = jobOf T t e k s
-
+module _ (T : List ℕ) (t e k s : ℕ) (within : Within t e k) (small : Small T) (ways : Ways T) where
   pub job-stands : jobOf T t e k s .stands / 524288 ≡ k
   unfolding jobOf
   job-stands = omega (arith, within .minute, within .place, small .words (1264 + (k * 128 + e)))
@@ -168,6 +165,14 @@ module _ (T : List ℕ) (t e k s : ℕ) (within : Within t e k) (small : Small T
   unfolding jobOf
   job-blocks = omega (arith, within .minute, small .safety)
 
+  job-at : jobOf T t e k s .stands / 4096 % 128 ≤ 65
+  unfolding jobOf
+  job-at = omega (arith, within .minute, within .place, ways .stays (k * 128 + e) (omega (arith, within .place, within .train)))
+
+  job-from : jobOf T t e k s .blocks / 4096 % 128 ≡ s / 4096 % 128
+  unfolding jobOf
+  job-from = omega (arith, within .minute, small .safety)
+
   -- a block is not one that waits
   job-block : waitsOf (t + 1) (jobOf T t e k s .blocks) ≡ false
   unfolding jobOf waitsOf
@@ -175,24 +180,27 @@ module _ (T : List ℕ) (t e k s : ℕ) (within : Within t e k) (small : Small T
       let z : (k * 524288 + s / 4096 % 128 * 4096 + 2048 + (t + getD T 2 0)) / 2048 % 2 ≡ 1 = omega (arith, within .minute, small .safety) in
       ap (λ (b : Bool). cond b false (ltb ((k * 524288 + s / 4096 % 128 * 4096 + 2048 + (t + getD T 2 0)) % 2048) (t + 1))) (eq-eqb ((k * 524288 + s / 4096 % 128 * 4096 + 2048 + (t + getD T 2 0)) / 2048 % 2) 1 z)
 
-  same-place : (x : ℕ) → asksOf T t e k x ≡ true → x / 4096 % 128 ≡ s / 4096 % 128
-  same-place x h =
+module _ (T : List ℕ) (t e k s : ℕ) (within : Within t e k) (small : Small T) (ways : Ways T) (near : s / 4096 % 128 ≤ 65) (asks : asksOf T t e k s ≡ true) where
+  same-place : (x : ℕ) → x / 4096 % 128 ≤ 65 → asksOf T t e k x ≡ true → x / 4096 % 128 ≡ s / 4096 % 128
+  same-place x close h =
       let a = asking T t e k s asks in
       let b = asking T t e k x h in
       let i : x / 4096 < 1024 = omega (arith, b .train, within .train) in
       let j : s / 4096 < 1024 = omega (arith, a .train, within .train) in
       let same : x / 4096 / 128 ≡ s / 4096 / 128 = omega (arith, a .train, b .train) in
       let next : getD T (240 + x / 4096) 0 ≤ 64 = omega (arith, b .next, within .place) in
-      ap (λ (y : ℕ). y % 128) (ways .one-place (x / 4096) (s / 4096) i j same next (b .next ∙ sym (a .next)))
+      ap (λ (y : ℕ). y % 128) (ways .one-place (x / 4096) (s / 4096) i j close near same next (b .next ∙ sym (a .next)))
 
   pub job-ready : Ready T (jobOf T t e k s) (s / 4096 % 128)
   unfolding jobOf
   job-ready = record {
     cap = refl;
     place = omega (arith, within .place);
-    stands = omega (arith, job-stands, within .train);
-    blocks = omega (arith, job-blocks, within .train);
-    block = job-block;
+    stands = omega (arith, job-stands T t e k s within small ways, within .train);
+    blocks = omega (arith, job-blocks T t e k s within small ways, within .train);
+    block = job-block T t e k s within small ways;
+    stands-place = job-at T t e k s within small ways;
+    blocks-place = omega (arith, job-from T t e k s within small ways, near);
     nexts = λ x h. ways .nexts (x / 4096) (omega arith);
     one-place = same-place;
   }

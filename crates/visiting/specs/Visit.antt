@@ -77,11 +77,13 @@ pub record Kept (w : ℕ) (rows : List ℕ) : Type 0 where
   pub within : w ≤ length rows
   pub even : w / 2 * 2 ≡ w
 
--- the planned minutes fit their places, so do the codes of the next elements, and an element is next from one place of a train alone
+-- the planned minutes fit their places, so do the codes of the next elements, an element is next from one place of a train alone, and each train has a delay
 pub record Ways (T : List ℕ) : Type 0 where
   pub stays : (i : ℕ) → i < 1024 → getD T (1264 + i) 0 < 1024
   pub nexts : (i : ℕ) → i < 1024 → getD T (240 + i) 0 < 128
-  pub one-place : (i j : ℕ) → i < 1024 → j < 1024 → i / 128 ≡ j / 128 → getD T (240 + i) 0 ≤ 64 → getD T (240 + i) 0 ≡ getD T (240 + j) 0 → i ≡ j
+  pub one-place : (i j : ℕ) → i < 1024 → j < 1024 → i % 128 ≤ 65 → j % 128 ≤ 65 → i / 128 ≡ j / 128 → getD T (240 + i) 0 ≤ 64 → getD T (240 + i) 0 ≡ getD T (240 + j) 0
+      → i ≡ j
+  pub delays : (k : ℕ) → k < getD T 0 0 → 1 ≤ getD T (40 + k) 0
 
 -- what is noted of the rows l in minute t: they are calm, their minutes are shown, and none is a block that ended before t
 pub record Noted (T : List ℕ) (t : ℕ) (N : List ℕ) (l : List Row) : Type 0 where

@@ -109,7 +109,7 @@ module _ (T : List ℕ) (t e k s : ℕ) (within : Within t e k) (small : Small T
 
 module _ (T : List ℕ) (t e k n s : ℕ) (rows weights N : List ℕ)
     (within : Within t e k) (small : Small T) (ways : Ways T) (room : length rows ≡ getD T 3 0 * 2 + 2) (fits : n * 2 < length rows)
-    (asked : someAsks T t e k (rowsIn n rows) ≡ true) (asker : askerOf T t e k (rowsIn n rows) ≡ s) (asks : asksOf T t e k s ≡ true)
+    (asked : someAsks T t e k (rowsIn n rows) ≡ true) (asker : askerOf T t e k (rowsIn n rows) ≡ s) (near : s / 4096 % 128 ≤ 65) (asks : asksOf T t e k s ≡ true)
     (flagged : Flagged N) (noted : Noted T t N (rowsIn n rows)) where
   abbrev J : Job
   J = jobOf T t e k s
@@ -135,12 +135,12 @@ module _ (T : List ℕ) (t e k n s : ℕ) (rows weights N : List ℕ)
       (w : weights′ ≡ arrivedOf T J (take (z .entering) entering′) weights) (m : N′ ≡ settledOf T J (s / 4096 % 128) moved N) where
     after : Settles T J (s / 4096 % 128) moved N (settledOf T J (s / 4096 % 128) moved N)
     unfolding jobOf
-    after = settles T J (s / 4096 % 128) moved N flagged ways (within .train) (omega (arith, within .place)) (omega arith) (omega (arith, job-stands T t e k s within small ways asks, within .train))
+    after = settles T J (s / 4096 % 128) moved N flagged ways (within .train) (omega (arith, within .place)) (omega arith) (omega (arith, job-stands T t e k s within small ways, within .train))
 
     noted-after : Noted T t (settledOf T J (s / 4096 % 128) moved N) (stirredPass T J u L)
     unfolding jobOf
     noted-after = record {
-      calm = calm-passed T J (stirIn N) (askedIn N) (stirIn M) (askedIn M) L (s / 4096 % 128) moved (job-ready T t e k s within small ways asks) (after .spread) (noted .calm) went;
+      calm = calm-passed T J (stirIn N) (askedIn N) (stirIn M) (askedIn M) L (s / 4096 % 128) moved (job-ready T t e k s within small ways near asks) (after .spread) (noted .calm) went;
       shown = subst (Every (λ r. getD M (2176 + r .state % 4096) 0 ≡ 0 → ⊥)) pass-is
           (passed-states (λ x. getD M (2176 + x % 4096) 0 ≡ 0 → ⊥) T J L (after .stands-shown) (after .blocks-shown)
           (every-more (λ r. getD N (2176 + r .state % 4096) 0 ≡ 0 → ⊥) (λ r. getD M (2176 + r .state % 4096) 0 ≡ 0 → ⊥) (λ r h x. h (after .minutes (r .state % 4096) (omega arith) x)) L (noted .shown)));
@@ -276,6 +276,7 @@ module _ (T : List ℕ) (t e k : ℕ) (N : List ℕ) (l : List Row) (ways : Ways
   settled₁ r a h = record {
     full = h .full;
     train = h .train;
+    place = h .place;
     known = λ w z. h .known w (sym (asked₁ (spotOf T (r .state)) (other w)) ∙ z);
     still = λ w. go w (h .still w);
   }

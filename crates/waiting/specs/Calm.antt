@@ -46,6 +46,7 @@ pub data Still (T : List ℕ) (stir : ℕ → ℕ) (l : List Row) (s c : ℕ) : 
 pub record Settled (T : List ℕ) (n : ℕ) (stir asked : ℕ → ℕ) (l : List Row) (r : Row) : Type 0 where
   pub full : fullOf 8 (r .cover) ≡ true
   pub train : r .state / 524288 < 8
+  pub place : r .state / 4096 % 128 ≤ 65
   pub known : waitsOf n (r .state) ≡ true → asked (spotOf T (r .state)) ≡ 0 → ⊥
   pub still : waitsOf n (r .state) ≡ true → Still T stir l (r .state) (r .cover)
 
@@ -118,6 +119,7 @@ module _ (T : List ℕ) (stir asked : ℕ → ℕ) (f : Row → List Row) (new l
   settled-next n was before r grown more h = record {
     full = h .full;
     train = h .train;
+    place = h .place;
     known = λ w z. h .known w (more z);
     still = λ w. go (fullOf 8 (bitAnd (r .cover) (stir (spotOf T (r .state))))) refl w (h .still w);
   }

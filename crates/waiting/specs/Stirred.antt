@@ -123,8 +123,10 @@ pub record Ready (T : List ℕ) (q : Job) (from : ℕ) : Type 0 where
   pub stands : q .stands / 524288 < 8
   pub blocks : q .blocks / 524288 < 8
   pub block : waitsOf (q .minute + 1) (q .blocks) ≡ false
+  pub stands-place : q .stands / 4096 % 128 ≤ 65
+  pub blocks-place : q .blocks / 4096 % 128 ≤ 65
   pub nexts : (s : ℕ) → s / 524288 < 8 → nextOf T s < 128
-  pub one-place : (s : ℕ) → asksOf T (q .minute) (q .place) (q .train) s ≡ true → s / 4096 % 128 ≡ from
+  pub one-place : (s : ℕ) → s / 4096 % 128 ≤ 65 → asksOf T (q .minute) (q .place) (q .train) s ≡ true → s / 4096 % 128 ≡ from
 
 module _ (cap : ℕ) (met : List ℕ) (p : ℕ) (f : fullOf 8 p ≡ true) where
   pieces-held : (ps : List Part) → Every (Piece cap 0 met p) ps → Every (λ c. (fullOf 8 c ≡ true) × Sub c p × Quiet c cap met) (heldOf ps)
@@ -182,8 +184,8 @@ module _ (T : List ℕ) (q : Job) (stir asked stir′ asked′ : ℕ → ℕ) (l
   parts : (r : Row) → Before r → Every (λ c. (fullOf 8 c ≡ true) × Sub c (r .cover) × Quiet c (q .cap) met) (heldOf (carried (q .cap) met 0 (r .cover)))
   parts r h = pieces-held (q .cap) met (r .cover) (h .full) (carried (q .cap) met 0 (r .cover)) (pieces (q .cap) met 0 (r .cover))
 
-  told-of : (r : Row) → askingOf T q r ≡ true → Sub (r .cover) moved → (k : ℕ) → k < 8 → (r .state / 524288 ≡ k → ⊥) → Told stir′ asked′ (spot k (r .state / 4096 % 128)) (r .cover)
-  told-of r a s k small other = rw (ready .one-place (r .state) a) (go (spread .left k small (λ z. other (shows T q stir asked l (ready .cap) r a .train ∙ sym z))))
+  told-of : (r : Row) → Before r → askingOf T q r ≡ true → Sub (r .cover) moved → (k : ℕ) → k < 8 → (r .state / 524288 ≡ k → ⊥) → Told stir′ asked′ (spot k (r .state / 4096 % 128)) (r .cover)
+  told-of r h a s k small other = rw (ready .one-place (r .state) (h .place) a) (go (spread .left k small (λ z. other (shows T q stir asked l (ready .cap) r a .train ∙ sym z))))
     where
       go : Told stir′ asked′ (spot k from) moved → Told stir′ asked′ (spot k from) (r .cover)
       go (nobody z) = nobody z
@@ -197,7 +199,7 @@ module _ (T : List ℕ) (q : Job) (stir asked stir′ asked′ : ℕ → ℕ) (l
       go : (b : Bool) → stirredOf T q own r ≡ b → Moved stir′ asked′ r (cond b (heldRows (r .state) (heldOf (carried (q .cap) met 0 (r .cover)))) (r ∷ []))
       go true e = goes
           (every-map (λ c. (fullOf 8 c ≡ true) × Sub c (r .cover) × Quiet c (q .cap) met) (λ x. (x .state ≡ r .state) × Sub (x .cover) (r .cover)) (λ c. row (r .state) c) (λ c k. (refl, k .1)) (heldOf (carried (q .cap) met 0 (r .cover))) (parts r h))
-          (told-of r (stirred-asks r e) s)
+          (told-of r h (stirred-asks r e) s)
       go false e = stays
 
   all-moved : Calm T (q .minute + 1) stir asked l → Every (λ r. Went (hold r) (enter r) moved r) l → Every (λ r. Moved stir′ asked′ r (hold r)) l
@@ -218,10 +220,11 @@ module _ (T : List ℕ) (q : Job) (stir asked stir′ asked′ : ℕ → ℕ) (l
 
   module _ (calm : Calm T (q .minute + 1) stir asked l) (went : Every (λ r. Went (hold r) (enter r) moved r) l) where
     -- a row of the asked pair that is quiet
-    settled-own : (s c : ℕ) → s / 524288 < 8 → fullOf 8 c ≡ true → asksOf T (q .minute) (q .place) (q .train) s ≡ true → (asked (spotOf T s) ≡ 0 → ⊥) → Quiet c (q .cap) met → After (row s c)
-    settled-own s c small full a some h = record {
+    settled-own : (s c : ℕ) → s / 524288 < 8 → s / 4096 % 128 ≤ 65 → fullOf 8 c ≡ true → asksOf T (q .minute) (q .place) (q .train) s ≡ true → (asked (spotOf T s) ≡ 0 → ⊥) → Quiet c (q .cap) met → After (row s c)
+    settled-own s c small near full a some h = record {
       full = full;
       train = small;
+      place = near;
       known = λ w z. some (spread .more (spotOf T s) z);
       still = λ w. still-next T stir′ asked′ hold new l (all-moved calm went) s c small full (λ z. some (spread .more (spotOf T s) z))
           (rw (shows-cap T q stir asked l (ready .cap) (row s c) a, shows-met T q stir asked l (ready .cap) (row s c) a) h);
@@ -238,8 +241,8 @@ module _ (T : List ℕ) (q : Job) (stir asked stir′ asked′ : ℕ → ℕ) (l
             → Every After (cond (cond a f false) (heldRows (r .state) (heldOf (carried (q .cap) met 0 (r .cover)))) (r ∷ []))
         go true true x y =
             every-map (λ c. (fullOf 8 c ≡ true) × Sub c (r .cover) × Quiet c (q .cap) met) After (λ c. row (r .state) c)
-            (λ c k. settled-own (r .state) c (h .train) (k .0) x (some x) (k .2)) (heldOf (carried (q .cap) met 0 (r .cover))) (parts r h)
-        go true false x y = (settled-own (r .state) (r .cover) (h .train) (h .full) x (some x) (quiet-of (h .still (shows-waits T q stir asked l (ready .cap) r x))), tt)
+            (λ c k. settled-own (r .state) c (h .train) (h .place) (k .0) x (some x) (k .2)) (heldOf (carried (q .cap) met 0 (r .cover))) (parts r h)
+        go true false x y = (settled-own (r .state) (r .cover) (h .train) (h .place) (h .full) x (some x) (quiet-of (h .still (shows-waits T q stir asked l (ready .cap) r x))), tt)
           where
             quiet-of : Still T stir l (r .state) (r .cover) → Quiet (r .cover) (q .cap) met
             quiet-of (stirred z) = absurd (false≢true (sym y ∙ ap (λ (i : ℕ). fullOf 8 (bitAnd (r .cover) (stir i))) (sym (shows-spot T q stir asked l (ready .cap) r x)) ∙ z))
@@ -272,6 +275,7 @@ module _ (T : List ℕ) (q : Job) (stir asked stir′ asked′ : ℕ → ℕ) (l
     settled-new c k = record {
       full = k .0;
       train = ready .stands;
+      place = ready .stands-place;
       known = λ w. spread .fresh w .0;
       still = λ w. stirred (ap (fullOf 8) (sub-trans c moved (stir′ (spotOf T (q .stands))) (k .1) (spread .fresh w .1)) ∙ k .0);
     }
@@ -280,6 +284,7 @@ module _ (T : List ℕ) (q : Job) (stir asked stir′ asked′ : ℕ → ℕ) (l
     settled-block c k = record {
       full = k;
       train = ready .blocks;
+      place = ready .blocks-place;
       known = λ w. absurd (false≢true (sym (ready .block) ∙ w));
       still = λ w. absurd (false≢true (sym (ready .block) ∙ w));
     }
@@ -337,6 +342,7 @@ module _ (T : List ℕ) (n : ℕ) (stir asked stir′ asked′ : ℕ → ℕ) (l
       record {
         full = h .full;
         train = h .train;
+        place = h .place;
         known = λ w. known-by (waitsOf n (r .state)) refl w now;
         still = λ w. still-by (waitsOf n (r .state)) refl w now;
       }

@@ -5,7 +5,8 @@ use native.Mathlib.Omega.{arith}
 use lib.ListN.{length}
 use Rattle.rows.specs.Rows.{rowsIn, rowsOf}
 use Rattle.clearing.specs.Clear.{Marks}
-use Rattle.clearing.specs.Clearing.{marks-none, marks-more, row-of}
+use Rattle.rows.specs.Written.{row-of}
+use Rattle.clearing.specs.Clearing.{marks-none, marks-more}
 use borrow.Author.Needs.{needs}
 use Rattle.clearing.proofs.mark.Statement.{statement}
 use Rattle.clearing.proofs.mark.Tie as tie

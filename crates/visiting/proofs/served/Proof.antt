@@ -4,6 +4,10 @@ use Prim.Native.Nat.{_+_, _*_, _/_, _%_}
 use native.Mathlib.Omega.{arith}
 use lib.ListN.{getD}
 use Rattle.asking.specs.Ask.{jobOf}
+use Rattle.rows.specs.Rows.{rowsIn}
+use Rattle.rows.specs.Written.{row-of}
+use Rattle.waiting.specs.Calm.{Settled}
+use Rattle.waiting.specs.Notes.{stirIn, askedIn}
 use Rattle.waiting.specs.Telling.{stir-is}
 use Rattle.visiting.specs.Settling.{job-stands}
 use Rattle.visiting.specs.Visiting.{served-law, asker-is, asked-is}
@@ -39,7 +43,7 @@ arrive-requires c κs = (c .before .before .before .before .before .before .befo
 
 settle-requires : tie.Need-settle-requires
 unfolding jobOf
-settle-requires c κs = rw (c .before .before .before .before .before .before .before .before .before .before .before .before .before .before .before .before .before .before .before .before .before .before .assign .ensures) (c .before .before .before .before .before .before .before .before .before .before .before .before .before .before .before .before .before .before .before .before .before .before .before .before .before .before .before .before .before .before .before .before .pre .1 .1 .1 .0, c .before .before .before .before .before .before .before .before .before .before .before .before .before .before .before .before .before .before .before .before .before .before .before .before .before .before .before .before .before .before .before .before .pre .1 .0 .2, c .before .before .before .before .before .before .before .before .before .before .before .before .before .before .before .before .before .before .before .before .before .before .before .before .before .before .before .before .before .before .before .before .pre .1 .0 .0 .train, omega (arith, c .before .before .before .before .before .before .before .before .before .before .before .before .before .before .before .before .before .before .before .before .before .before .before .before .before .before .before .before .before .before .before .before .pre .1 .0 .0 .place), omega arith, omega (arith, job-stands (c .before .before .before .before .before .before .before .before .before .before .before .before .before .before .before .before .before .before .before .before .before .before .before .before .before .before .before .before .before .before .before .before .args .tables .now) (c .before .before .before .before .before .before .before .before .before .before .before .before .before .before .before .before .before .before .before .before .before .before .before .before .before .before .before .before .before .before .before .before .args .t) (c .before .before .before .before .before .before .before .before .before .before .before .before .before .before .before .before .before .before .before .before .before .before .before .before .before .before .before .before .before .before .before .before .args .e) (c .before .before .before .before .before .before .before .before .before .before .before .before .before .before .before .before .before .before .before .before .before .before .before .before .before .before .before .before .before .before .before .before .args .k) (getD (c .before .before .before .before .before .before .before .before .before .before .before .before .before .before .before .before .before .before .before .before .before .before .before .before .before .before .before .before .before .before .before .before .args .rows .now) (c .before .before .before .before .before .before .before .before .before .before .before .before .before .before .before .before .before .before .before .before .before .before .before .before .before .before .before .before .before .before .before .before .args .i * 2) 0) (c .before .before .before .before .before .before .before .before .before .before .before .before .before .before .before .before .before .before .before .before .before .before .before .before .before .before .before .before .before .before .before .before .pre .1 .0 .0) (c .before .before .before .before .before .before .before .before .before .before .before .before .before .before .before .before .before .before .before .before .before .before .before .before .before .before .before .before .before .before .before .before .pre .1 .0 .1) (c .before .before .before .before .before .before .before .before .before .before .before .before .before .before .before .before .before .before .before .before .before .before .before .before .before .before .before .before .before .before .before .before .pre .1 .0 .2) (c .before .before .before .before .before .before .before .before .before .before .before .before .before .before .before .before .before .before .before .before .before .before .before .before .before .before .before .before .before .before .before .before .pre .1 .1 .0 .3), c .before .before .before .before .before .before .before .before .before .before .before .before .before .before .before .before .before .before .before .before .before .before .before .before .before .before .before .before .before .before .before .before .pre .1 .0 .0 .train))
+settle-requires c κs = rw (c .before .before .before .before .before .before .before .before .before .before .before .before .before .before .before .before .before .before .before .before .before .before .assign .ensures) (c .before .before .before .before .before .before .before .before .before .before .before .before .before .before .before .before .before .before .before .before .before .before .before .before .before .before .before .before .before .before .before .before .pre .1 .1 .1 .0, c .before .before .before .before .before .before .before .before .before .before .before .before .before .before .before .before .before .before .before .before .before .before .before .before .before .before .before .before .before .before .before .before .pre .1 .0 .2, c .before .before .before .before .before .before .before .before .before .before .before .before .before .before .before .before .before .before .before .before .before .before .before .before .before .before .before .before .before .before .before .before .pre .1 .0 .0 .train, omega (arith, c .before .before .before .before .before .before .before .before .before .before .before .before .before .before .before .before .before .before .before .before .before .before .before .before .before .before .before .before .before .before .before .before .pre .1 .0 .0 .place), omega arith, omega (arith, job-stands (c .before .before .before .before .before .before .before .before .before .before .before .before .before .before .before .before .before .before .before .before .before .before .before .before .before .before .before .before .before .before .before .before .args .tables .now) (c .before .before .before .before .before .before .before .before .before .before .before .before .before .before .before .before .before .before .before .before .before .before .before .before .before .before .before .before .before .before .before .before .args .t) (c .before .before .before .before .before .before .before .before .before .before .before .before .before .before .before .before .before .before .before .before .before .before .before .before .before .before .before .before .before .before .before .before .args .e) (c .before .before .before .before .before .before .before .before .before .before .before .before .before .before .before .before .before .before .before .before .before .before .before .before .before .before .before .before .before .before .before .before .args .k) (getD (c .before .before .before .before .before .before .before .before .before .before .before .before .before .before .before .before .before .before .before .before .before .before .before .before .before .before .before .before .before .before .before .before .args .rows .now) (c .before .before .before .before .before .before .before .before .before .before .before .before .before .before .before .before .before .before .before .before .before .before .before .before .before .before .before .before .before .before .before .before .args .i * 2) 0) (c .before .before .before .before .before .before .before .before .before .before .before .before .before .before .before .before .before .before .before .before .before .before .before .before .before .before .before .before .before .before .before .before .pre .1 .0 .0) (c .before .before .before .before .before .before .before .before .before .before .before .before .before .before .before .before .before .before .before .before .before .before .before .before .before .before .before .before .before .before .before .before .pre .1 .0 .1) (c .before .before .before .before .before .before .before .before .before .before .before .before .before .before .before .before .before .before .before .before .before .before .before .before .before .before .before .before .before .before .before .before .pre .1 .0 .2), c .before .before .before .before .before .before .before .before .before .before .before .before .before .before .before .before .before .before .before .before .before .before .before .before .before .before .before .before .before .before .before .before .pre .1 .0 .0 .train))
 
 same-length : tie.Need-same-length
 same-length c = search needs
@@ -71,8 +75,9 @@ returns c =
     let asker = asker-is T (s .t) (s .e) (s .k) (s .i) (s .n) (s .rows .now) (p .1 .1 .0 .0) (omega (arith, p .1 .1 .0 .1)) (p .1 .1 .0 .2) (p .1 .1 .0 .3) in
     let asked = asked-is T (s .t) (s .e) (s .k) (s .i) (s .n) (s .rows .now) (p .1 .1 .0 .0) (omega (arith, p .1 .1 .0 .1)) (p .1 .1 .0 .2) (p .1 .1 .0 .3) in
     let u = p .1 .1 .1 .2 ∙ sym (stir-is (s .notes .now) (s .k * 128 + s .e) (omega (arith, p .1 .0 .0 .place, p .1 .0 .0 .train))) in
+    let near = row-of (Settled T (s .t + 1) (stirIn (s .notes .now)) (askedIn (s .notes .now)) (rowsIn (s .n) (s .rows .now))) (s .i) (s .n) (s .rows .now) (p .1 .1 .0 .0) (omega (arith, p .1 .1 .0 .1)) (p .1 .1 .1 .1 .calm) .place in
     let q = c .before .before .before .before .before .before .before .before .before .before .before .before .before .before .before .before .before .before .before .before .before .before .before .before .before .assign .ensures in
-    served-law T (s .t) (s .e) (s .k) (s .n) x (s .rows .now) (s .weights .now) (s .notes .now) (p .1 .0 .0) (p .1 .0 .1) (p .1 .0 .2) (p .0 .rows-are) (p .1 .1 .0 .1) asked asker (p .1 .1 .0 .3) (p .1 .1 .1 .0) (p .1 .1 .1 .1) (c .before .before .before .before .before .before .before .before .before .before .before .before .before .before .before .before .before .before .before .pass .result .moved) _ _ _ _ (c .before .before .before .before .before .before .before .before .before .before .before .before .before .before .before .before .before .before .before .pass .result) (omega (arith, c .before .before .before .before .before .before .before .before .before .before .before .before .before .before .before .before .before .before .rows)) (rw (q, u) at (c .before .before .before .before .before .before .before .before .before .before .before .before .before .before .before .before .before .before .before .pass .ensures .0)) (rw (q, u) at (c .before .before .before .before .before .before .before .before .before .before .before .before .before .before .before .before .before .before .before .pass .ensures .1)) (rw q at (c .before .before .before .before .before .before .arrive .ensures)) (rw q at (c .before .before .settle .ensures))
+    served-law T (s .t) (s .e) (s .k) (s .n) x (s .rows .now) (s .weights .now) (s .notes .now) (p .1 .0 .0) (p .1 .0 .1) (p .1 .0 .2) (p .0 .rows-are) (p .1 .1 .0 .1) asked asker near (p .1 .1 .0 .3) (p .1 .1 .1 .0) (p .1 .1 .1 .1) (c .before .before .before .before .before .before .before .before .before .before .before .before .before .before .before .before .before .before .before .pass .result .moved) _ _ _ _ (c .before .before .before .before .before .before .before .before .before .before .before .before .before .before .before .before .before .before .before .pass .result) (omega (arith, c .before .before .before .before .before .before .before .before .before .before .before .before .before .before .before .before .before .before .rows)) (rw (q, u) at (c .before .before .before .before .before .before .before .before .before .before .before .before .before .before .before .before .before .before .before .pass .ensures .0)) (rw (q, u) at (c .before .before .before .before .before .before .before .before .before .before .before .before .before .before .before .before .before .before .before .pass .ensures .1)) (rw q at (c .before .before .before .before .before .before .arrive .ensures)) (rw q at (c .before .before .settle .ensures))
 
 pub served-spec : {M : Type 1} → statement M
 served-spec =
