@@ -58,3 +58,8 @@ pub record Cleared (T : List ℕ) (t : ℕ) (l : List Row) (w r : ℕ) (rows M :
   pub list : rowsOf (take r rows) ≡ sweptOf t l
   pub flagged : Flagged M
   pub due : Due T t M (sweptOf t l)
+
+-- the minutes of all rows are shown
+pub record Enrols (l : List Row) (M : List ℕ) : Type 0 where
+  pub flagged : Flagged M
+  pub shown : Every (Shown M) l

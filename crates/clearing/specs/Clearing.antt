@@ -4,7 +4,7 @@ use mathlib.Core.Bool.{Bool, true, false, not, cond, false≢true}
 use mathlib.Core.List.{List, [], _∷_, _++_}
 use Prim.Native.Nat.{ℕ, _+_, _*_, _/_, _%_, _≤_, _<_}
 use native.Mathlib.Omega.{arith}
-use borrow.Author.Tests.{eqb-true, eqb-false, eq-eqb, ltb-true, ltb-false}
+use borrow.Author.Tests.{eqb-true, eqb-false, le-ltb, ltb-true, ltb-false}
 use lib.ListN.{length, take, getD}
 use lib.Dec.{eqb, ltb}
 use Rattle.rules.specs.Lists.{one, each, keep}
@@ -17,9 +17,10 @@ use Rattle.waiting.specs.Calm.{waitsOf, spot, spotOf, Settled, Calm, Told}
 use Rattle.waiting.specs.Stirred.{due-waits, calm-swept, calm-later}
 use Rattle.waiting.specs.Notes.{stirIn, askedIn, toldAll, freshOf, Flagged, Grows}
 use Rattle.waiting.specs.Telling.{grows-same, grows-trans, told-keeps, TellsAll, told-all, Freshens, fresh-law}
-use Rattle.visiting.specs.Visit.{wakeOf, Ways, Kept, Noted}
-use Rattle.visiting.specs.Settling.{spot-low}
-use Rattle.clearing.specs.Clear.{leftOf, markedOf, Known, Leaves, Heard, Marks, Shown, Due, Cleared}
+use Rattle.cut.specs.Cut.{fullOf}
+use Rattle.visiting.specs.Visit.{showOf, wakeOf, Ways, Kept, Noted}
+use Rattle.visiting.specs.Settling.{spot-low, show-grows, show-flagged, show-own}
+use Rattle.clearing.specs.Clear.{leftOf, markedOf, Known, Leaves, Heard, Marks, Shown, Due, Cleared, Enrols}
 
 -- ---- blocks that go
 
@@ -211,3 +212,60 @@ module _ (T : List ℕ) (t w : ℕ) (rows N : List ℕ) (kept : Kept w rows) (F 
   wake-done current M h =
       let e : rowsIn (w / 2) rows ≡ l = ap (λ (y : ℕ). rowsOf (take y rows)) (kept .even) in
       wake-marked T t N l d current M (subst (λ (x : List Row). Marks T t x N M) e h)
+
+-- ---- the first rows
+
+pub enrols-none : (N : List ℕ) → Flagged N → Enrols [] N
+enrols-none N F = record { flagged = F; shown = tt }
+
+pub enrols-more : (i : ℕ) (l N : List ℕ) → i * 2 + 2 ≤ length l → Enrols (rowsIn i l) N → Enrols (rowsIn (i + 1) l) (showOf N (getD l (i * 2) 0))
+enrols-more i l N long h =
+    let M : List ℕ = showOf N (getD l (i * 2) 0) in
+    record {
+      flagged = show-flagged N (getD l (i * 2) 0) (h .flagged);
+      shown = subst (Every (Shown M)) (sym (rowsIn-more i l long))
+          (every-append (Shown M) (rowsIn i l) (rowAt l i ∷ [])
+          (every-more (Shown N) (Shown M) (λ r k z. k (show-grows N (getD l (i * 2) 0) (h .flagged) .minutes (r .state % 4096) (omega arith) z)) (rowsIn i l) (h .shown))
+          (show-own N (getD l (i * 2) 0) (h .flagged), tt));
+    }
+
+-- a row that is nowhere but outside, or on an element, with no empty set
+pub record Proper (r : Row) : Type 0 where
+  pub full : fullOf 8 (r .cover) ≡ true
+  pub train : r .state / 524288 < 8
+  pub place : r .state / 4096 % 128 ≤ 65
+
+-- before minute 0 nothing waits and nothing has ended
+pub first-due : (T : List ℕ) (N : List ℕ) (l : List Row) → Every Proper l → Enrols l N → Due T 0 N l
+unfolding waitsOf endedOf
+first-due T N l p h = record {
+  calm = every-more Proper (Settled T 0 (stirIn N) (askedIn N) l) settled l p;
+  shown = h .shown;
+  last = every-more Proper (λ r. endedOf 0 (r .state) ≡ true → r .state % 4096 ≡ 2047 + 0) (λ r k e. absurd (false≢true (sym (ended (r .state)) ∙ e))) l p;
+}
+  where
+    low : (x : ℕ) → ltb x 0 ≡ false
+    low x = le-ltb x 0 (omega arith)
+
+    waits : (s : ℕ) → waitsOf 0 s ≡ false
+    waits s = go (eqb (s / 2048 % 2) 1)
+      where
+        go : (b : Bool) → cond b false (ltb (s % 2048) 0) ≡ false
+        go true = refl
+        go false = low (s % 2048)
+
+    ended : (s : ℕ) → endedOf 0 s ≡ false
+    ended s = go (eqb (s / 2048 % 2) 1)
+      where
+        go : (b : Bool) → cond b (ltb (s % 2048) 0) false ≡ false
+        go true = low (s % 2048)
+        go false = refl
+
+    settled : (r : Row) → Proper r → Settled T 0 (stirIn N) (askedIn N) l r
+    settled r k = record {
+      full = k .full;
+      train = k .train;
+      place = k .place;
+      known = λ w. absurd (false≢true (sym (waits (r .state)) ∙ w));
+      still = λ w. absurd (false≢true (sym (waits (r .state)) ∙ w));
+    }

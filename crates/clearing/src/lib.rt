@@ -7,7 +7,7 @@ ghost use Rattle.simulation.specs.Lists.{Every};
 ghost use Rattle.rows.specs.Rows.{rowsOf, rowsIn, endedOf};
 ghost use Rattle.waiting.specs.Notes.{Flagged};
 ghost use Rattle.visiting.specs.Visit.{Kept, Ways, Noted};
-ghost use Rattle.clearing.specs.Clear.{leftOf, markedOf, Leaves, Marks, Due, Cleared};
+ghost use Rattle.clearing.specs.Clear.{leftOf, markedOf, Leaves, Marks, Due, Cleared, Enrols};
 
 // If s is the state of a block that ended before t, the pairs of its place are told of its cover c.
 pub fn leave(notes: &mut [u64], s: u64, c: u64, t: u64) -> usize
@@ -85,4 +85,18 @@ pub fn wake(rows: &[u64], w: usize, tables: &[u64], notes: &mut [u64], t: u64) -
         return 0;
     }
     mark(rows, w / 2, tables, notes, t)
+}
+
+// The minutes of the first n rows are shown.
+pub fn enrol(rows: &[u64], n: usize, notes: &mut [u64]) -> usize
+    requires { ⌜ (n * 2 ≤ length (now rows)) × Flagged (now notes) ⌝ }
+    ensures { λ r. ⌜ Enrols (rowsIn n (now (rows .entry))) (now (notes .exit)) ⌝ }
+{
+    let mut i = 0;
+    while i < n {
+        let s = rows[i * 2];
+        let _x = visiting::show(notes, s);
+        i += 1;
+    }
+    i
 }
