@@ -1,14 +1,17 @@
--- Laws of the loop over the minutes: one more minute, and a minute after its sweep. A refused outcome stays refused. Assumes nothing.
+-- Laws of the loop over the minutes: one more minute, and a minute after its clearing. A refused outcome stays refused. Assumes nothing.
 use mathlib.Core.Path.{_≡_, refl, ap, sym, _∙_}
 use mathlib.Core.List.{List}
-use Prim.Native.Nat.{ℕ, zero, suc, _+_, _*_, _/_, _≤_, _<_}
+use Prim.Native.Nat.{ℕ, zero, suc, _+_, _≤_, _<_}
 use native.Mathlib.Omega.{arith}
 use lib.ListN.{length, take, getD}
-use Rattle.rows.specs.Rows.{Row, rowsOf, rowsIn, sweptOf}
-use Rattle.visiting.specs.Visit.{Outcome, passOf, read, Kept}
+use Rattle.rows.specs.Rows.{Row, rowsOf}
+use Rattle.waiting.specs.Notes.{Flagged}
+use Rattle.visiting.specs.Visit.{Outcome, passOf, read, Kept, Seen}
 use Rattle.visiting.specs.Visit.Outcome.{refused, stands}
 use Rattle.visiting.specs.Visiting.{read-in, read-out, pass-over}
 use Rattle.elements.specs.Elements.{upTo, elementOf, elementsOf}
+use Rattle.clearing.specs.Clear.{Due, Cleared}
+use Rattle.clearing.specs.Clearing.{noted-due}
 use Rattle.entries.specs.Run.{clearedOf, minuteOf, minutesOf}
 
 -- ---- one more
@@ -35,21 +38,32 @@ elements-over T t m = go m
     go zero = refl
     go (suc m) = ap (upTo (λ j. passOf T t m (getD T (8 + j) 0)) (getD T 0 0)) (go m) ∙ passes m (getD T 0 0)
 
-module _ (T : List ℕ) (t w : ℕ) (rows weights : List ℕ) where
-  pub minute-over : length rows ≤ w → read w rows weights ≡ minuteOf T t (read w rows weights)
-  unfolding minuteOf clearedOf
-  minute-over h =
-      read-out w rows weights h
-      ∙ sym (ap (λ (o : Outcome). elementsOf T t 65 (clearedOf t o)) (read-out w rows weights h) ∙ elements-over T t 65)
+-- what a minute leaves: its outcome, whole rows, and what is noted of them before the next
+pub record Passes (T : List ℕ) (t : ℕ) (o : Outcome) (r : ℕ) (rows weights notes : List ℕ) : Type 0 where
+  pub outcome : read r rows weights ≡ o
+  pub kept : Kept r rows
+  pub flagged : Flagged notes
+  pub due : r < length rows → Due T (t + 1) notes (rowsOf (take r rows))
 
-  -- after sweeping n rows are left
-  pub minute-all : (n r : ℕ) (rows′ rows″ weights″ : List ℕ) → w < length rows → Kept w rows → length rows′ ≡ length rows → n ≤ w / 2
-      → rowsIn n rows′ ≡ sweptOf t (rowsIn (w / 2) rows) → read r rows″ weights″ ≡ elementsOf T t 65 (read (n * 2) rows′ weights)
-      → read r rows″ weights″ ≡ minuteOf T t (read w rows weights)
+module _ (T : List ℕ) (t w : ℕ) (rows weights : List ℕ) (kept : Kept w rows) where
+  pub minute-over : (N : List ℕ) → Flagged N → length rows ≤ w → Passes T t (minuteOf T t (read w rows weights)) w rows weights N
   unfolding minuteOf clearedOf
-  minute-all n r rows′ rows″ weights″ h kept same less swept done =
-      done
-      ∙ ap (elementsOf T t 65)
-      (read-in (n * 2) rows′ weights (omega (arith, kept .even))
-      ∙ ap (λ (l : List Row). stands l weights) (swept ∙ ap (λ (y : ℕ). sweptOf t (rowsOf (take y rows))) (kept .even))
-      ∙ sym (ap (clearedOf t) (read-in w rows weights h)))
+  minute-over N F h = record {
+    outcome = read-out w rows weights h ∙ sym (ap (λ (o : Outcome). elementsOf T t 65 (clearedOf t o)) (read-out w rows weights h) ∙ elements-over T t 65);
+    kept = kept;
+    flagged = F;
+    due = λ less. absurd (omega arith);
+  }
+
+  -- after clearing the first v words are left
+  pub minute-all : (v r : ℕ) (rows′ M rows″ weights″ N″ : List ℕ) → w < length rows → length rows′ ≡ length rows → Cleared T t (rowsOf (take w rows)) w v rows′ M
+      → Seen T t (elementsOf T t 65 (read v rows′ weights)) r rows″ weights″ N″
+      → Passes T t (minuteOf T t (read w rows weights)) r rows″ weights″ N″
+  unfolding minuteOf clearedOf
+  minute-all v r rows′ M rows″ weights″ N″ h same c s = record {
+    outcome = s .outcome
+        ∙ ap (elementsOf T t 65) (read-in v rows′ weights (omega (arith, c .less)) ∙ ap (λ (l : List Row). stands l weights) (c .list) ∙ sym (ap (clearedOf t) (read-in w rows weights h)));
+    kept = s .kept;
+    flagged = s .flagged;
+    due = λ less. noted-due T t N″ (rowsOf (take r rows″)) (s .noted less);
+  }

@@ -1,14 +1,18 @@
 // The joint run on rows of two words: minutes and the run to a stop minute, with the weights that arrive.
 ghost use mathlib.Core.Path.{_≡_};
 ghost use Prim.Native.Nat.{_+_, _<_};
-ghost use lib.ListN.{length};
+ghost use lib.ListN.{length, take};
+ghost use Rattle.rows.specs.Rows.{rowsOf};
 ghost use Rattle.weigh.specs.Weigh.{Small};
 ghost use Rattle.serving.specs.Pass.{Lent};
-ghost use Rattle.visiting.specs.Visit.{read, Kept};
+ghost use Rattle.waiting.specs.Notes.{Flagged};
+ghost use Rattle.visiting.specs.Visit.{read, Kept, Ways};
+ghost use Rattle.clearing.specs.Clear.{Due};
 ghost use Rattle.entries.specs.Run.{minuteOf, minutesOf};
 ghost use Rattle.entries.specs.Answer.{Answers};
+ghost use Rattle.joint.specs.Minutes.{Passes};
 
-// Minute t: the blocks that ended go, then the passes of all elements.
+// Minute t: the blocks that ended go, rows that are due now wait, then the passes of all elements.
 pub fn minute(
     rows: &mut [u64],
     w: usize,
@@ -17,21 +21,21 @@ pub fn minute(
     met: &mut [u64],
     held: &mut [u64],
     entering: &mut [u64],
-    want: &mut [u64],
+    notes: &mut [u64],
     weights: &mut [u64],
     t: u64,
 ) -> usize
     requires { ⌜ Lent (now tables) (now rows) (now tmp) (now met) (now held) (now entering) ⌝ }
-    requires { ⌜ (t < 720) × Small (now tables) × Kept w (now rows) ⌝ }
-    ensures { λ r. ⌜ (read r (now (rows .exit)) (now (weights .exit)) ≡ minuteOf (now (tables .entry)) t (read w (now (rows .entry)) (now (weights .entry)))) × Kept r (now (rows .exit)) ⌝ }
+    requires { ⌜ (t < 720) × Small (now tables) × Ways (now tables) ⌝ }
+    requires { ⌜ Kept w (now rows) × Flagged (now notes) × (w < length (now rows) → Due (now tables) t (now notes) (rowsOf (take w (now rows)))) ⌝ }
+    ensures { λ r. ⌜ Passes (now (tables .entry)) t (minuteOf (now (tables .entry)) t (read w (now (rows .entry)) (now (weights .entry)))) r (now (rows .exit)) (now (weights .exit)) (now (notes .exit)) ⌝ }
 {
     if w == rows.len() {
         return w;
     }
-    let n = rows::sweep(rows, w / 2, t);
-    let _x = visiting::mark(rows, n, tables, want, t);
-    let v = n * 2;
-    elements::elements(rows, v, tmp, tables, met, held, entering, want, weights, t)
+    let v = clearing::clear(rows, w, notes, tables, t);
+    let _x = clearing::wake(rows, v, tables, notes, t);
+    elements::elements(rows, v, tmp, tables, met, held, entering, notes, weights, t)
 }
 
 // The minutes from 0 to `stop`.
@@ -43,18 +47,19 @@ pub fn minutes(
     met: &mut [u64],
     held: &mut [u64],
     entering: &mut [u64],
-    want: &mut [u64],
+    notes: &mut [u64],
     weights: &mut [u64],
     stop: u64,
 ) -> usize
     requires { ⌜ Lent (now tables) (now rows) (now tmp) (now met) (now held) (now entering) ⌝ }
-    requires { ⌜ (stop < 720) × Small (now tables) × Kept w (now rows) ⌝ }
+    requires { ⌜ (stop < 720) × Small (now tables) × Ways (now tables) ⌝ }
+    requires { ⌜ Kept w (now rows) × Flagged (now notes) × (w < length (now rows) → Due (now tables) 0 (now notes) (rowsOf (take w (now rows)))) ⌝ }
     ensures { λ r. ⌜ (read r (now (rows .exit)) (now (weights .exit)) ≡ minutesOf (now (tables .entry)) (stop + 1) (read w (now (rows .entry)) (now (weights .entry)))) × Kept r (now (rows .exit)) ⌝ }
 {
     let mut t = 0;
     let mut v = w;
     while t <= stop {
-        v = minute(rows, v, tmp, tables, met, held, entering, want, weights, t);
+        v = minute(rows, v, tmp, tables, met, held, entering, notes, weights, t);
         t += 1;
     }
     v
@@ -68,16 +73,18 @@ pub fn run(
     met: &mut [u64],
     held: &mut [u64],
     entering: &mut [u64],
-    want: &mut [u64],
+    notes: &mut [u64],
     weights: &mut [u64],
     stop: u64,
 ) -> usize
     requires { ⌜ Lent (now tables) (now rows) (now tmp) (now met) (now held) (now entering) ⌝ }
-    requires { ⌜ (stop < 720) × Small (now tables) ⌝ }
+    requires { ⌜ (stop < 720) × Small (now tables) × Ways (now tables) × (length (now notes) ≡ 6272) ⌝ }
     ensures { λ r. ⌜ Answers (now (tables .entry)) stop (length (now (weights .entry))) r (now (rows .exit)) (now (weights .exit)) ⌝ }
 {
     let _x = opening::clear(weights);
+    let _y = opening::clear(notes);
     let w = opening::begin(tables, rows);
+    let _z = clearing::enrol(rows, w / 2, notes);
     minutes(
         rows,
         w,
@@ -86,7 +93,7 @@ pub fn run(
         met,
         held,
         entering,
-        want,
+        notes,
         weights,
         stop,
     )
