@@ -34,6 +34,8 @@ use Rattle.plan.specs.Small.{Bytes}
 use Rattle.weigh.specs.Weigh.{Small}
 use Rattle.entries.specs.Lookups.{table-room}
 use Rattle.desk.specs.Single.{byte-delays}
+use Rattle.visiting.specs.Visit.{Ways}
+use Rattle.entries.specs.Onward.{tables-ways}
 use Rattle.desk.specs.Tables.{tables-small}
 use Rattle.desk.specs.Steps.{Begins, Came, Ran}
 use Rattle.desk.specs.Steps.Came.{over, stands}
@@ -125,6 +127,9 @@ module _ (cs bk : List ℕ) (m : ℕ) {s : Sizes} (b : Begins cs bk m s) (tb : L
 
   pub small-tables : Bytes cs → Bytes bk → Small tb
   small-tables p q = subst Small (sym looked) (tables-small (b .of) begun-sound (byte-delays cs bk (b .of) p q (b .accepted)))
+
+  pub ways-tables : Ways tb
+  ways-tables = subst Ways (sym looked) (tables-ways (b .of) begun-sound)
 
   pub run-ran : Bytes cs → Bytes bk → {n w end r : ℕ} (rows rest ws : List ℕ) → joints.Answers tb m n w rows ws → n ≡ 5760 → length rows ≡ end → end ≤ 2050 → length ws ≡ 5760
       → (w ≡ end → r ≡ 1025) → ((w ≡ end → ⊥) → r ≡ w / 2) → (C : Case) → files cs bk ≡ answer C → Ran C m r (rows ++ rest) ws tb

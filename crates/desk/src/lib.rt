@@ -13,6 +13,7 @@ ghost use Rattle.rules.specs.Refusals.Result.{answer};
 ghost use Rattle.rules.specs.Files as rulesFiles;
 ghost use Rattle.rules.specs.Calls.{filled, singleRun, runCall, listingCall, figuresCall};
 ghost use Rattle.weigh.specs.Weigh.{Small};
+ghost use Rattle.visiting.specs.Visit.{Ways};
 ghost use Rattle.entries.specs.Answer.{Answers};
 ghost use Rattle.figures.specs.Answers as told;
 ghost use Rattle.desk.specs.Answers.{refusedWith, answered, answerOf, singleAnswer, trainFigures, figuresOf, lentTwo, lentThree, Gives, GivesText};
@@ -99,14 +100,14 @@ fn fill(list: &[u64], n: usize, trains: usize, ws: &[u64], rows: &mut [u8], weig
 
 // The joint run on the tables, with room for its work: the number of words of its rows, or their length for refusal 12.
 fn run_on(tables: &[u64], rows: &mut [u64], ws: &mut [u64], stop: u64) -> usize
-    requires { ⌜ (length (now rows) ≡ getD (now tables) 3 0 * 2 + 2) × (length (now rows) ≤ 2050) × (stop < 720) × Small (now tables) ⌝ }
+    requires { ⌜ (length (now rows) ≡ getD (now tables) 3 0 * 2 + 2) × (length (now rows) ≤ 2050) × (stop < 720) × Small (now tables) × Ways (now tables) ⌝ }
     ensures { λ r. ⌜ Answers (now (tables .entry)) stop (length (now (ws .entry))) r (now (rows .exit)) (now (ws .exit)) ⌝ }
 {
     let mut tmp = [0u64; 2050];
     let mut met = [0u64; 1025];
     let mut held = [0u64; 1025];
     let mut entering = [0u64; 1025];
-    let mut want = [0u64; 1152];
+    let mut notes = [0u64; 6272];
     joint::run(
         rows,
         &mut tmp,
@@ -114,7 +115,7 @@ fn run_on(tables: &[u64], rows: &mut [u64], ws: &mut [u64], stop: u64) -> usize
         &mut met,
         &mut held,
         &mut entering,
-        &mut want,
+        &mut notes,
         ws,
         stop,
     )
