@@ -6,7 +6,7 @@ use mathlib.Core.Path.{_≡_, refl, ap, sym, _∙_}
 use mathlib.Core.Logic.{⊎-elim}
 use denote.Enum.Declared
 use Rattle.fields.proofs.Field
-use Rattle.viewer.specs.Viewing.{placeAfter, placeFrom, placeOf}
+use Rattle.viewer.specs.Viewing.{placeFrom, placeOf}
 use Rattle.viewer.specs.Laws.{place-stays, stays, viewing-here, place-come, place-onward}
 use Rattle.viewer.proofs.nth.Statement.{statement}
 use Rattle.viewer.proofs.nth.Tie as tie
