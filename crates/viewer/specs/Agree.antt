@@ -12,6 +12,7 @@ use lib.Dec.{leb, ltb, eqb}
 use borrow.Author.Tests.{leb-true, leb-false, ltb-true, lt-ltb, le-ltb, le-leb, lt-leb}
 use Rattle.rules.specs.Lists.{has}
 use Rattle.rules.specs.Refusals.{Rule, Refusal, Result, number, firstOf, verdict, unless}
+use Rattle.rules.specs.Refusals.Fault.{overrun}
 use Rattle.rules.specs.Refusals.Result.{refused, answer}
 use Rattle.rules.specs.Files.{File, fileNumber, Contents, byte, word, size, body, headOf, trackOf, trainOf, tableOf, known, inPlace, lengths, most, howMany, headRules, stationRules, trackRules, trainRules, tableRules, bodyRules, fieldRules, more, endRules, readField, readFields, empty, read}
 use Rattle.rules.specs.Files.File.{case, book}
@@ -19,7 +20,7 @@ use Rattle.sound.specs.Verdicts.{answer-answer, unless-answer, unless-refused, 
 use Rattle.sound.specs.Verdicts.{Field as Accepted}
 use Rattle.fields.specs.declared.Field.{Field}
 use Rattle.fields.specs.declared.Field.the-variants.{Whole, Ended, Overrun}
-use Rattle.fields.specs.Fields.{past, whole, fieldAt}
+use Rattle.fields.specs.Fields.{past, whole, fieldAt, numberOf}
 use Rattle.viewer.specs.Viewing.{placeAfter, placeFrom, withGiven, heldFrom}
 
 -- ---- the statements
@@ -35,12 +36,12 @@ pub record ToTheEnd (l : List ℕ) (i : ℕ) (c d : Contents) : Type 0 where
   pub ended : fieldAt l (placeFrom many l i) ≡ Ended
   pub holds : heldFrom many l i c ≡ d
 
--- a viewer at i gives some fields and stands then at the refusal's place; if it is refusal 1, it gives refusal 1 there
+-- a viewer at i gives some fields and stands then at the refusal's place; if it is refusal 1, that is what the viewer gives there
 pub record Stopped (l : List ℕ) (i : ℕ) (r : Refusal) : Type 0 where
   pub many : ℕ
   pub fields : Gives l i many
   pub place : placeFrom many l i ≡ r .place
-  pub one : r .number ≡ 1 → fieldAt l (r .place) ≡ Overrun
+  pub one : r .number ≡ number overrun → numberOf (fieldAt l (r .place)) ≡ r .number
 
 -- ---- the field at a place, by the bytes from there on
 
@@ -201,7 +202,7 @@ module _ (f : File) (l : List ℕ) (r : Refusal) where
   stopped-here i n e o =
       let p : i ≡ r .place = ap (λ (q : Refusal). q .place) e in
       let m : n ≡ r .number = ap (λ (q : Refusal). q .number) e in
-      record { many = 0; fields = λ k b. absurd (omega arith); place = p; one = λ z. ap (fieldAt l) (sym p) ∙ o (m ∙ z) }
+      record { many = 0; fields = λ k b. absurd (omega arith); place = p; one = λ z. ap (λ (j : ℕ). numberOf (fieldAt l j)) (sym p) ∙ ap numberOf (o (m ∙ z)) ∙ sym z }
 
   stopped : (n i : ℕ) (c : Contents) → readFields n f i (drop i l) c ≡ refused r → Stopped l i r
   unfolding readFields readField
