@@ -8,7 +8,7 @@ use crate::writer::{head, station, table, track, train};
 /// How many inputs are drawn from one seed.
 pub const OF_A_SEED: usize = 50;
 /// The seeds of the fixed comparison: 1 up to this one.
-pub const FIXED_SEEDS: u64 = 12;
+pub const FIXED_SEEDS: u64 = 24;
 /// The most trains that an asking train can meet on an element, and so the highest count at which a piece can be held.
 pub const MOST_MET: usize = 6;
 
