@@ -165,6 +165,16 @@ const KINDS: [(&str, Seat, &[Fault]); 13] = [
 /// What can be said of a field in a book that is no table.
 const FOREIGN: &[Fault] = &[HeaderCut, NoTableInBook, Length, BodyCut];
 
+/// Faults that never give the refusal of a field, because in it another one with a lower place in the order always comes along.
+const NEVER_FIRST: [(Seat, &[Fault]); 6] = [
+    ((IN_CASE, UNKNOWN), &[NoHeadFirst, FallingTag, BodyCut]),
+    ((IN_BOOK, UNKNOWN), &[NoTableInBook, BodyCut]),
+    ((IN_BOOK, HEAD_TAG), &[Length, BodyCut]),
+    ((IN_BOOK, STATION_TAG), &[Length, BodyCut]),
+    ((IN_BOOK, TRACK_TAG), &[Length, BodyCut]),
+    ((IN_BOOK, TRAIN_TAG), &[Length, BodyCut]),
+];
+
 /// Faults of a body that is all there.
 const OF_BODIES: &[Fault] = &[
     LastMinuteZero,
@@ -273,13 +283,17 @@ fn faults_at(case: &[u8], book: &[u8], refusal: &Refusal) -> (Seat, Vec<Fault>) 
     ((refusal.file, tag), faults)
 }
 
-/// What the vectors of refused readings reach: how often each two faults met in each seat, a fault with itself for the fault alone.
+/// What the vectors of refused readings reach: how often each two faults met in each seat, and with itself how often a fault was there and its
+/// own number was given.
 type Met = BTreeMap<(Seat, Fault, Fault), usize>;
 
 /// Adds the faults of one refused reading.
 fn add_faults(met: &mut Met, seat: Seat, faults: &[Fault]) {
     for (at, one) in faults.iter().enumerate() {
-        for other in &faults[at..] {
+        if one.refusal() == faults[0].refusal() {
+            *met.entry((seat, *one, *one)).or_insert(0) += 1;
+        }
+        for other in &faults[at + 1..] {
             *met.entry((seat, *one, *other)).or_insert(0) += 1;
         }
     }
@@ -316,21 +330,24 @@ fn every_fault_and_every_two_that_can_meet_in_one_field_are_reached() {
         count_seat(&mut counts, &met, name, seat, faults);
     }
     (0..7).for_each(|train| counts.ask(format!("refusal 11 for train {train}")));
+    assert_named(&met);
+    counts.show();
+}
+
+/// Asserts that every fault met is named where it was met, and that no two met that are said never to.
+fn assert_named(met: &Met) {
     let named: BTreeSet<(Seat, Fault)> = KINDS
         .iter()
         .flat_map(|(_, seat, faults)| faults.iter().map(|fault| (*seat, *fault)))
         .collect();
-    for ((seat, one, other), _) in &met {
-        assert!(
-            named.contains(&(*seat, *one)),
-            "{one:?} in {seat:?} is not named"
-        );
-        assert!(
-            can_meet(*one, *other),
-            "{one:?} and {other:?} met in {seat:?}"
-        );
+    for (seat, one, other) in met.keys() {
+        for fault in [one, other] {
+            let known = named.contains(&(*seat, *fault));
+            assert!(known, "{fault:?} in {seat:?} is not named");
+        }
+        let may = can_meet(*one, *other);
+        assert!(may, "{one:?} and {other:?} met in {seat:?}");
     }
-    counts.show();
 }
 
 /// Asks for each fault of a seat, and for each two that can meet there; of these the number and the smallest count are shown.
@@ -341,9 +358,15 @@ fn count_seat(counts: &mut Counts, met: &Met, name: &str, seat: Seat, faults: &[
     };
     let mut pairs = Vec::new();
     for (at, one) in faults.iter().enumerate() {
-        let alone = format!("refusal {}: {name}: {one:?}", one.refusal());
-        counts.ask(alone.clone());
-        counts.add(alone, count(*one, *one));
+        let given = format!("refusal {} given: {name}: {one:?}", one.refusal());
+        match NEVER_FIRST
+            .iter()
+            .any(|(at, late)| *at == seat && late.contains(one))
+        {
+            true => assert_eq!(count(*one, *one), 0, "{given}"),
+            false => counts.ask(given.clone()),
+        }
+        counts.add(given, count(*one, *one));
         let later = faults[at + 1..].iter();
         for other in later.filter(|other| can_meet(*one, **other)) {
             let reached = count(*one, *other);
