@@ -22,14 +22,14 @@ const SECONDS: f64 = 1.0;
 const MOST_CHOICES: u64 = 1_024;
 
 /// A case and its book.
-struct Files {
+pub struct Files {
     name: String,
     case: Vec<u8>,
     book: Vec<u8>,
 }
 
 /// What was measured of a case: microseconds of the three runs, and the rows after its minutes.
-struct Measured {
+pub struct Measured {
     exported: f64,
     joint: f64,
     enumeration: f64,
@@ -38,7 +38,7 @@ struct Measured {
 }
 
 /// The most rows after a minute, and the rows after all minutes together.
-struct Rows {
+pub struct Rows {
     most: usize,
     sum: usize,
 }
