@@ -19,7 +19,7 @@ use tables::{print_costs, print_ratios, print_series};
 /// The seconds within which each figure is taken.
 const SECONDS: f64 = 1.0;
 /// The most choices that are all run; of more, so many are run and the time of all is reckoned.
-const MOST_CHOICES: u64 = 1_024;
+const MOST_CHOICES: u64 = 256;
 
 /// A case and its book.
 pub struct Files {
