@@ -18,8 +18,10 @@ use tables::{print_costs, print_ratios, print_series};
 
 /// The seconds within which each figure is taken.
 const SECONDS: f64 = 1.0;
-/// The most choices that are all run; of more, so many are run and the time of all is reckoned.
-const MOST_CHOICES: u64 = 256;
+/// The most choices that are all run.
+const MOST_CHOICES: u64 = 1_024;
+/// The choices that are run where there are more; the time of all is reckoned from them.
+const SOME_CHOICES: u64 = 256;
 
 /// A case and its book.
 pub struct Files {
@@ -130,11 +132,11 @@ fn enumeration(plan: &Plan, choices: u64) -> f64 {
         return quickest(SECONDS, || drop(arrivals(plan)));
     }
     let some = quickest(SECONDS, || {
-        for i in 0..MOST_CHOICES {
-            drop(single::run(plan, &choice(plan, i * choices / MOST_CHOICES)));
+        for i in 0..SOME_CHOICES {
+            drop(single::run(plan, &choice(plan, i * choices / SOME_CHOICES)));
         }
     });
-    some * choices as f64 / MOST_CHOICES as f64
+    some * choices as f64 / SOME_CHOICES as f64
 }
 
 /// The choice with this number, the last train's index moving fastest.

@@ -2,7 +2,7 @@
 
 use crate::exported::Desk;
 use crate::series::{case, series, Shape};
-use crate::{exported_run, rows_of, Files, Measured, MOST_CHOICES};
+use crate::{exported_run, rows_of, Files, Measured, MOST_CHOICES, SOME_CHOICES};
 use second::plan::Plan;
 
 /// The times of the three runs, and the second program's as multiples of the exported run's.
@@ -21,7 +21,7 @@ pub fn print_ratios(measured: &[(Files, Plan, Measured)]) {
             figure(of.enumeration / of.exported),
         );
     }
-    println!("\n`~`: reckoned from {MOST_CHOICES} single runs.\n");
+    println!("\n`~`: reckoned from {SOME_CHOICES} single runs.\n");
 }
 
 /// What the cost of the exported run goes with: trains, minutes, choices, rows.
