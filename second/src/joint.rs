@@ -137,11 +137,14 @@ impl JointRun {
 
     /// The pieces of an asking entry, which meets the other trains' entries on the element in list order.
     fn cut_asker(&self, plan: &Plan, asker: &Entry, element: Place) -> Cut {
-        let Some(capacity) = plan.capacity(element) else {
-            return Cut {
-                held: Vec::new(),
-                entering: vec![asker.cover.clone()],
-            };
+        let capacity = match plan.capacity(element) {
+            Some(capacity) => capacity,
+            None => {
+                return Cut {
+                    held: Vec::new(),
+                    entering: vec![asker.cover.clone()],
+                }
+            }
         };
         let to_meet: Vec<Cover> = self
             .list
