@@ -22,17 +22,17 @@ use Rattle.passes.specs.Bounds.{ByteDelays, Bounded, bounded-train, bounded-min
 use Rattle.codes.specs.Codes.{stateOf}
 use Rattle.cut.specs.Packed as cut
 use Rattle.rows.specs.Rows as rows
-use Rattle.joint.specs.Coded.{Coded, bounded-coded}
-use Rattle.joint.specs.Encoded as encoded
-use Rattle.joint.specs.Answer as joints
+use Rattle.entries.specs.Coded.{Coded, bounded-coded}
+use Rattle.entries.specs.Encoded as encoded
+use Rattle.entries.specs.Answer as joints
 use Rattle.images.specs.Rows.{packed, rowOf, SmallSet, SmallPlace, SmallMark, SmallEntry}
 use Rattle.rules.specs.Refusals.Result.{answer}
 use Rattle.sound.specs.Accepted.{accepted-sound}
 use Rattle.codes.specs.Tables.{tables}
 use Rattle.lookup.specs.declared.Sizes.{Sizes}
 use Rattle.plan.specs.Small.{Bytes}
-use Rattle.joint.specs.Pass.{Small}
-use Rattle.joint.specs.Lookups.{table-room}
+use Rattle.weigh.specs.Weigh.{Small}
+use Rattle.entries.specs.Lookups.{table-room}
 use Rattle.desk.specs.Single.{byte-delays}
 use Rattle.desk.specs.Tables.{tables-small}
 use Rattle.desk.specs.Steps.{Begins, Came, Ran}

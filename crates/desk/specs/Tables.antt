@@ -21,8 +21,8 @@ use Rattle.passes.specs.Bounds.{ByteDelays}
 use Rattle.passes.specs.Order.{order-known}
 use Rattle.simulation.specs.Lists as simulated
 use Rattle.single.specs.Low.{Low, tables-low}
-use Rattle.joint.specs.Pass.{setWeight, Small}
-use Rattle.joint.specs.Lookups.{table-trains, table-safety, table-weight}
+use Rattle.weigh.specs.Weigh.{setWeight, Small}
+use Rattle.entries.specs.Lookups.{table-trains, table-safety, table-weight}
 
 -- ---- the words of eight trains
 

@@ -15,8 +15,8 @@ use Rattle.simulation.specs.Simulation.{Simulates}
 use Rattle.weights.specs.Arrivals.{arrivesIn}
 use Rattle.demands.specs.Demands.{demand-3, demand-2}
 use Rattle.rows.specs.Rows.{words}
-use Rattle.joint.specs.Encoded.{rowOf}
-use Rattle.joint.specs.Answer.{Answer}
+use Rattle.entries.specs.Encoded.{rowOf}
+use Rattle.entries.specs.Answer.{Answer}
 
 -- the words that `joint::run` answers with r, and the weights that it leaves, for an accepted case and a stop minute of its window that meets no refusal
 module _ (cs bk : List ℕ) (C : Case) (accepted : files cs bk ≡ answer C) (stop r : ℕ) (rows weights : List ℕ) (run : Answer C stop r rows weights)

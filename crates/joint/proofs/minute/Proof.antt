@@ -1,15 +1,16 @@
 -- `joint::minute` meets its contract: sweeping, marking, and the visits. Assumes nothing.
 use mathlib.Core.Path.{refl}
 use native.Mathlib.Omega.{arith}
-use Rattle.joint.specs.Run.{Kept}
-use Rattle.joint.specs.Visiting.{minute-over, minute-all, lent-same}
+use Rattle.visiting.specs.Visit.{Kept}
+use Rattle.elements.specs.Turning.{lent-same}
+use Rattle.joint.specs.Minutes.{minute-over, minute-all}
 use borrow.Author.Needs.{needs}
 use Rattle.joint.proofs.minute.Statement.{statement}
 use Rattle.joint.proofs.minute.Tie as tie
 use Rattle.joint.proofs.minute.Reads as reads
 use Rattle.joint.proofs.minute.Lts as lts
-use Rattle.joint.proofs.elements.Reads as elements-reads
-use Rattle.joint.proofs.mark.Reads as mark-reads
+use Rattle.elements.proofs.elements.Reads as elements-reads
+use Rattle.visiting.proofs.mark.Reads as mark-reads
 use Rattle.rows.proofs.sweep.Reads as sweep-reads
 
 returns : tie.Need-returns

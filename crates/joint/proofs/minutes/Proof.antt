@@ -4,8 +4,10 @@ use mathlib.Core.Path.{_≡_, refl, sym, ap, _∙_}
 use Prim.Native.Nat.{_+_, _-_, _≤_}
 use native.Mathlib.Omega.{arith}
 use lib.ListN.{length}
-use Rattle.joint.specs.Run.{minuteOf, minutesOf, read, Kept}
-use Rattle.joint.specs.Visiting.{minutes-none, minutes-more, lent-same}
+use Rattle.visiting.specs.Visit.{read, Kept}
+use Rattle.entries.specs.Run.{minuteOf, minutesOf}
+use Rattle.elements.specs.Turning.{lent-same}
+use Rattle.joint.specs.Minutes.{minutes-none, minutes-more}
 use Rattle.joint.proofs.minutes.Statement.{statement}
 use Rattle.joint.proofs.minutes.Tie as tie
 use Rattle.joint.proofs.minutes.Reads as reads

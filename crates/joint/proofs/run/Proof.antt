@@ -3,17 +3,19 @@ use mathlib.Core.Path.{refl, ap, _∙_}
 use Prim.Native.Nat.{_+_}
 use lib.ListN.{getD}
 use Rattle.rows.specs.Written.{put-length}
-use Rattle.joint.specs.Run.{Outcome, guard, firstRows, minutesOf}
-use Rattle.joint.specs.Visiting.{lent-same}
-use Rattle.joint.specs.Beginning.{begin-kept, begin-outcome}
-use Rattle.joint.specs.Answer.{ran-answers}
+use Rattle.opening.specs.First.{firstRows}
+use Rattle.visiting.specs.Visit.{Outcome, guard}
+use Rattle.entries.specs.Run.{minutesOf}
+use Rattle.elements.specs.Turning.{lent-same}
+use Rattle.joint.specs.Opened.{begin-kept, begin-outcome}
+use Rattle.entries.specs.Answer.{ran-answers}
 use borrow.Author.Needs.{needs}
 use Rattle.joint.proofs.run.Statement.{statement}
 use Rattle.joint.proofs.run.Tie as tie
 use Rattle.joint.proofs.run.Reads as reads
 use Rattle.joint.proofs.run.Lts as lts
-use Rattle.joint.proofs.start.begin.Reads as begin-reads
-use Rattle.joint.proofs.start.clear.Reads as clear-reads
+use Rattle.opening.proofs.begin.Reads as begin-reads
+use Rattle.opening.proofs.clear.Reads as clear-reads
 use Rattle.joint.proofs.minutes.Reads as minutes-reads
 
 clear-requires : tie.Need-clear-requires

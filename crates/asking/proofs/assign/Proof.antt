@@ -1,0 +1,89 @@
+-- `asking::assign` meets its contract: the words that are looked up are small, so no sum wraps. Assumes nothing.
+use Prim.Native.Nat.{_+_, _*_}
+use native.Mathlib.Omega.{arith}
+use Rattle.asking.specs.Ask.{jobOf}
+use borrow.Author.Needs.{needs}
+use Rattle.asking.proofs.assign.Statement.{statement}
+use Rattle.asking.proofs.assign.Tie as tie
+use Rattle.asking.proofs.assign.Reads as reads
+use Rattle.asking.proofs.assign.Lts as lts
+use Rattle.asking.proofs.capacity.Reads as capacity-reads
+use Rattle.rows.proofs.at.Reads as at-reads
+
+capacity-requires : tie.Need-capacity-requires
+capacity-requires c κs = omega (arith, c .before .pre .0 .place)
+
+mul-at : tie.Need-mul-at
+mul-at c = omega (arith, c .before .before .pre .0 .train)
+
+add-at : tie.Need-add-at
+add-at c = omega (arith, c .before .before .pre .0 .train, c .before .before .pre .0 .place)
+
+add-at-2 : tie.Need-add-at-2
+add-at-2 c = omega (arith, c .before .before .pre .0 .train, c .before .before .pre .0 .place)
+
+at-requires : tie.Need-at-requires
+at-requires c κs = search needs
+
+at-requires-2 : tie.Need-at-requires-2
+at-requires-2 c κs = search needs
+
+mul-t12 : tie.Need-mul-t12
+mul-t12 c = omega (arith, c .before .before .before .before .pre .0 .train, c .before .before .before .before .pre .0 .place)
+
+mul-t10 : tie.Need-mul-t10
+mul-t10 c = omega (arith, c .before .before .before .before .pre .0 .train, c .before .before .before .before .pre .0 .place)
+
+add-t11 : tie.Need-add-t11
+add-t11 c = omega (arith, c .before .before .before .before .pre .0 .train, c .before .before .before .before .pre .0 .place)
+
+add-t14 : tie.Need-add-t14
+add-t14 c = omega (arith, c .before .before .before .before .pre .0 .minute, c .before .at .ensures, c .before .before .before .before .pre .1 .words (1264 + (c .before .before .before .before .args .k * 128 + c .before .before .before .before .args .e)))
+
+add-t15 : tie.Need-add-t15
+add-t15 c = omega (arith, c .before .before .before .before .pre .0 .train, c .before .before .before .before .pre .0 .place, c .before .before .before .before .pre .0 .minute, c .before .at .ensures, c .before .before .before .before .pre .1 .words (1264 + (c .before .before .before .before .args .k * 128 + c .before .before .before .before .args .e)))
+
+mul-t16 : tie.Need-mul-t16
+mul-t16 c = omega (arith, c .before .before .before .before .pre .0 .train)
+
+mul-t17 : tie.Need-mul-t17
+mul-t17 c = omega arith
+
+add-t18 : tie.Need-add-t18
+add-t18 c = omega (arith, c .before .before .before .before .pre .0 .train)
+
+add-t19 : tie.Need-add-t19
+add-t19 c = omega (arith, c .before .before .before .before .pre .0 .train)
+
+add-t20 : tie.Need-add-t20
+add-t20 c = omega (arith, c .before .before .before .before .pre .0 .minute, c .at2 .ensures, c .before .before .before .before .pre .1 .words 2)
+
+add-t21 : tie.Need-add-t21
+add-t21 c = omega (arith, c .before .before .before .before .pre .0 .train, c .before .before .before .before .pre .0 .minute, c .at2 .ensures, c .before .before .before .before .pre .1 .words 2)
+
+returns : tie.Need-returns
+unfolding jobOf
+returns c = simp (c .before .before .capacity .ensures, c .before .at .ensures, c .at2 .ensures)
+
+pub assign-spec : {M : Type 1} → statement M
+assign-spec =
+    tie.close
+    (tie.spec
+    capacity-requires
+    mul-at
+    add-at
+    add-at-2
+    at-requires
+    at-requires-2
+    mul-t12
+    mul-t10
+    add-t11
+    add-t14
+    add-t15
+    mul-t16
+    mul-t17
+    add-t18
+    add-t19
+    add-t20
+    add-t21
+    returns)

@@ -1,0 +1,60 @@
+-- Who asks for an element and what a pass is for, on rows of two words and the words T that the runs look up. Assumes nothing: these are definitions.
+use mathlib.Core.Bool.{Bool, false, not, cond}
+use mathlib.Core.List.{List, [], _∷_}
+use Prim.Native.Nat.{ℕ, _+_, _*_, _/_, _%_, _≤_, _<_}
+use lib.ListN.{getD}
+use lib.Dec.{ltb, eqb}
+use Rattle.rows.specs.Rows.{Row, metOf}
+use Rattle.asking.specs.declared.Job.{Job}
+
+-- ---- asking
+
+-- a standing state whose due minute is at most t
+unfoldable pub dueOf : ℕ → ℕ → Bool
+dueOf t s = cond (eqb (s / 2048 % 2) 1) false (not (ltb t (s % 2048)))
+
+-- the code of a state's next element
+abbrev pub nextOf : List ℕ → ℕ → ℕ
+nextOf T s = getD T (240 + s / 4096) 0
+
+-- a state of train k that is due at t and whose next element is e
+unfoldable pub asksOf : List ℕ → ℕ → ℕ → ℕ → ℕ → Bool
+asksOf T t e k s = cond (eqb (s / 524288) k) (cond (dueOf t s) (eqb (nextOf T s) e) false) false
+
+-- the state of the first row that asks
+unfoldable pub askerOf : List ℕ → ℕ → ℕ → ℕ → List Row → ℕ
+askerOf T t e k [] = 0
+askerOf T t e k (r ∷ rs) = cond (asksOf T t e k (r .state)) (r .state) (askerOf T t e k rs)
+
+-- ---- what a pass is for
+
+-- the capacity of e; the way out has no limit, and nothing is met there
+unfoldable pub capOf : List ℕ → ℕ → ℕ
+capOf T e = cond (ltb e 64) (getD T (176 + e) 0) 1
+
+-- minute, element and train; capacity; the state of what enters, and of the block that it leaves where the asker of the state s stands
+unfoldable pub jobOf : List ℕ → ℕ → ℕ → ℕ → ℕ → Job
+jobOf T t e k s = record {
+  minute = t;
+  place = e;
+  train = k;
+  cap = capOf T e;
+  stands = k * 524288 + e * 4096 + (t + getD T (1264 + (k * 128 + e)) 0);
+  blocks = k * 524288 + s / 4096 % 128 * 4096 + 2048 + (t + getD T 2 0);
+  two = not (eqb (s / 4096 % 128) 65);
+}
+
+-- the covers that the job's train meets
+unfoldable pub metFor : Job → List Row → List ℕ
+metFor q rs = cond (ltb (q .place) 64) (metOf (q .place) (q .train) rs) []
+
+abbrev pub askingOf : List ℕ → Job → Row → Bool
+askingOf T q r = asksOf T (q .minute) (q .place) (q .train) (r .state)
+
+-- ---- contracts
+
+-- the minute, element and train of a pass
+pub record Within (t e k : ℕ) : Type 0 where
+  pub minute : t < 720
+  pub place : e ≤ 64
+  pub train : k < 8

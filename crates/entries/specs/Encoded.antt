@@ -1,0 +1,216 @@
+-- Entries as rows, and the tests on them: what code asks of a state is what the definitions ask of its mark, and a proper cover is packable.
+-- The words that the runs look up are those of the case. Assumes nothing.
+use mathlib.Core.Path.{_≡_, refl, ap, ap₂, sym, _∙_, subst}
+use mathlib.Core.Bool.{Bool, true, false, not, _&&_, cond}
+use mathlib.Core.List.{List, [], _∷_, _++_, map}
+use Prim.Native.Nat.{ℕ, zero, suc, _+_, _-_, _*_, _≤_, _<_}
+use native.Mathlib.Omega.{arith}
+use lib.ListN.{length, getD}
+use lib.Dec.{ltb, leb, eqb}
+use borrow.Author.Tests.{eq-eqb, ne-eqb, ltb-true, ltb-false}
+use Rattle.rules.specs.Lists.{one, keep, span, below, has}
+use Rattle.rules.specs.Files.{Case, Pair}
+use Rattle.rules.specs.Turns.{Place, same, Mark, Leg, ahead, headIs, asks, ended, capacity}
+use Rattle.rules.specs.Turns.Place.{outside, station, track, gone}
+use Rattle.rules.specs.Joint.{Cover, whole, Entry, piece, carry, meets}
+use Rattle.sound.specs.Facts.{Sound}
+use Rattle.simulation.specs.Lists.{Every, every-each, every-one}
+use Rattle.simulation.specs.Parts.{Part, Parts}
+use Rattle.simulation.specs.Places.{same-self}
+use Rattle.simulation.specs.Serving.{Proper}
+use Rattle.codes.specs.Codes.{codeOf, placeOf, stateOf, nowhere}
+use Rattle.codes.specs.Tables.{headCode, nextCode, tables}
+use Rattle.passes.specs.Passes.{asksFor, piecesAmong}
+use Rattle.passes.specs.Bounds.{Bounded, bounded-train}
+use Rattle.passes.specs.Elements.{ahead-known}
+use Rattle.cut.specs.Cut.{part, carried}
+use Rattle.cut.specs.Packed as packs
+use Rattle.cut.specs.Packed.{packed, packedPiece, Delays, Sets, Packable}
+use Rattle.cut.specs.Packed.Delays.{none, takes, skips}
+use Rattle.cut.specs.Bridge.{carried-carry}
+use Rattle.rows.specs.Rows.{Row, row, meetsOf, metOf, sweptOf}
+use Rattle.asking.specs.declared.Job.{Job}
+use Rattle.asking.specs.Ask.{nextOf, asksOf, capOf, metFor}
+use Rattle.entries.specs.Coded.{Coded, known-coded, bounded-coded, coded-small, place-code, code-place, code-test, Fit, bounded-fit, state-train, state-place, state-way, ended-state, due-state}
+use Rattle.entries.specs.Lookups.{table-next, table-capacity}
+
+-- an entry as a row
+unfoldable pub rowOf : Entry → Row
+rowOf r = row (stateOf (r .mark)) (packed (r .cover))
+
+-- an entry of the run: its mark is bounded, its cover is proper
+abbrev pub Good : Case → Entry → Type 0
+Good C r = Bounded C (r .mark) × Proper C r
+
+-- ---- covers
+
+-- some of the delays below n, in order, are a set of delays
+keep-delays : (f : ℕ → Bool) (n m k : ℕ) → n ≤ m → (v : ℕ) × Delays m k (keep f (span n k)) v
+keep-delays f zero zero k h = (0, none)
+keep-delays f zero (suc m) k h = let r = keep-delays f zero m (suc k) (omega arith) in (r .0 * 2, skips (r .1))
+keep-delays f (suc n) zero k h = absurd (omega arith)
+keep-delays f (suc n) (suc m) k h = go (f k) (keep-delays f n m (suc k) (omega arith))
+  where
+    go : (b : Bool) → (v : ℕ) × Delays m (suc k) (keep f (span n (suc k))) v → (v : ℕ) × Delays (suc m) k (one b k ++ keep f (span n (suc k))) v
+    go true r = (r .0 * 2 + 1, takes (r .1))
+    go false r = (r .0 * 2, skips (r .1))
+
+part-delays : (n : ℕ) (s : List ℕ) → n ≤ 8 → Part (below n) s → (v : ℕ) × Delays 8 0 s v
+part-delays n s h p =
+    let r = keep-delays (has s) n 8 0 h in
+    (r .0, subst (λ (z : List ℕ). Delays 8 0 z (r .0)) (p .listed) (r .1))
+
+parts-sets : (b : ℕ) (ts : List (List Pair)) (p : Cover) → length ts ≤ b → ((k : ℕ) → k < length ts → length (getD ts k []) ≤ 8)
+    → Parts (map (λ pairs. below (length pairs)) ts) p → Sets b (length ts) p
+parts-sets b [] [] h few q = Sets.none
+parts-sets b [] (s ∷ p) h few q = absurd q
+parts-sets zero (t ∷ ts) p h few q = absurd (omega arith)
+parts-sets (suc b) (t ∷ ts) [] h few q = absurd q
+parts-sets (suc b) (t ∷ ts) (s ∷ p) h few q =
+    let d = part-delays (length t) s (few 0 (omega arith)) (q .0) in
+    Sets.more (d .1) (parts-sets b ts p (omega arith) (λ k l. few (suc k) (omega arith)) (q .1))
+
+pub proper-packable : (C : Case) → Sound C → (p : Cover) → Parts (whole C) p → Packable (length (C .tables)) p
+unfolding whole
+proper-packable C sound p h =
+    parts-sets 8 (C .tables) p (omega (arith, sound .tabled, sound .few-trains)) (λ k l. sound .few-pairs k (omega (arith, sound .tabled))) h
+
+packable-every : (C : Case) → Sound C → (l : List Cover) → Every (Parts (whole C)) l → packs.Every (Packable (length (C .tables))) l
+packable-every C sound [] h = packs.Every.nil
+packable-every C sound (p ∷ l) h = packs.Every.cons (proper-packable C sound p (h .0)) (packable-every C sound l (h .1))
+
+-- ---- places
+
+pub place-coded : (e : ℕ) → e ≤ 64 → Coded (placeOf e)
+unfolding placeOf
+place-coded e h = go (ltb e 24) (ltb e 64) (eqb e 64) refl refl
+  where
+    go : (a b c : Bool) → ltb e 24 ≡ a → ltb e 64 ≡ b → Coded (cond a (station e) (cond b (track (e - 24)) (cond c gone outside)))
+    go true b c p q = ltb-true e 24 p
+    go false true c p q = omega (arith, ltb-true e 64 q, ltb-false e 24 p)
+    go false false true p q = tt
+    go false false false p q = tt
+
+gone-code : placeOf 64 ≡ gone
+unfolding placeOf
+gone-code = refl
+
+gone-test : (e : ℕ) → e ≤ 64 → same (placeOf e) gone ≡ eqb e 64
+gone-test e h =
+    ap (same (placeOf e)) (sym gone-code)
+    ∙ sym (code-test (placeOf e) 64 (place-coded e h) (omega arith))
+    ∙ ap (λ (c : ℕ). eqb c 64) (code-place e h)
+
+free-piece : (c : ℕ) → carried 1 [] 0 c ≡ part c false ∷ []
+unfolding carried
+free-piece c = refl
+
+-- ---- asking
+
+head-test : (C : Case) → Sound C → (e : ℕ) (ls : List Leg) → e ≤ 64 → ((p : Place) → headIs p ls ≡ true → Coded p) → eqb (headCode ls) e ≡ headIs (placeOf e) ls
+head-test C sound e [] h known = ne-eqb nowhere e (λ z. omega arith)
+head-test C sound e (l ∷ ls) h known = code-test (l .place) e (known (l .place) (same-self (l .place))) h
+
+module _ (C : Case) (sound : Sound C) (t e k : ℕ) (low : e ≤ 64) where
+  next-is : (m : Mark) → Bounded C m → nextOf (tables C) (stateOf m) ≡ headCode (ahead C (m .train) (m .place))
+  unfolding nextCode
+  next-is m b =
+      ap (λ (i : ℕ). getD (tables C) (240 + i) 0) (state-way m (bounded-fit C sound m b))
+      ∙ table-next C (m .train) (codeOf (m .place)) (omega (arith, bounded-train C sound m b)) (omega (arith, coded-small (m .place) (bounded-coded C sound m b)))
+      ∙ ap (λ (p : Place). headCode (ahead C (m .train) p)) (place-code (m .place) (bounded-coded C sound m b))
+
+  -- a state asks where its mark does
+  pub asks-row : (m : Mark) → Bounded C m → asksOf (tables C) t e k (stateOf m) ≡ asksFor C t (placeOf e) k m
+  unfolding asksOf asksFor asks
+  asks-row m b =
+      ap₂ (λ (j : ℕ) (d : Bool). cond (eqb j k) (cond d (eqb (nextOf (tables C) (stateOf m)) e) false) false) (state-train m fit) (due-state m fit t)
+      ∙ ap (λ (n : Bool). cond (eqb (m .train) k) (cond (not (m .blocks) && leb (m .minute) t) n false) false) next
+      ∙ go (eqb (m .train) k) (not (m .blocks)) (headIs (placeOf e) (ahead C (m .train) (m .place))) (leb (m .minute) t)
+    where
+      fit : Fit m
+      fit = bounded-fit C sound m b
+
+      next : eqb (nextOf (tables C) (stateOf m)) e ≡ headIs (placeOf e) (ahead C (m .train) (m .place))
+      next =
+          ap (λ (n : ℕ). eqb n e) (next-is m b)
+          ∙ head-test C sound e (ahead C (m .train) (m .place)) low (λ p h. known-coded C sound p (ahead-known C sound (m .train) (m .place) p h))
+
+      go : (a n h l : Bool) → cond a (cond (n && l) h false) false ≡ (a && (n && h && l))
+      go true true true true = refl
+      go true true true false = refl
+      go true true false true = refl
+      go true true false false = refl
+      go true false true l = refl
+      go true false false l = refl
+      go false n h l = refl
+
+  -- and meets where it does
+  pub meets-row : (m : Mark) → Bounded C m → meetsOf e k (stateOf m) ≡ (not (eqb (m .train) k) && same (m .place) (placeOf e))
+  unfolding meetsOf
+  meets-row m b =
+      ap₂ (λ (p j : ℕ). cond (eqb p e) (not (eqb j k)) false) (state-place m fit) (state-train m fit)
+      ∙ ap (λ (z : Bool). cond z (not (eqb (m .train) k)) false) (code-test (m .place) e (fit .coded) low)
+      ∙ go (same (m .place) (placeOf e)) (not (eqb (m .train) k))
+    where
+      fit : Fit m
+      fit = bounded-fit C sound m b
+
+      go : (a b : Bool) → cond a b false ≡ (b && a)
+      go true true = refl
+      go true false = refl
+      go false true = refl
+      go false false = refl
+
+  -- ---- what is met
+
+  met-rows : (l : List Entry) → Every (Good C) l → metOf e k (map rowOf l) ≡ map packed (meets (placeOf e) k l)
+  unfolding metOf meets rowOf
+  met-rows [] h = refl
+  met-rows (r ∷ l) h =
+      ap₂ (λ (z : Bool) (w : List ℕ). one z (packed (r .cover)) ++ w) (meets-row (r .mark) (h .0 .0)) (met-rows l (h .1))
+      ∙ go (not (eqb (r .mark .train) k) && same (r .mark .place) (placeOf e))
+    where
+      go : (b : Bool) → one b (packed (r .cover)) ++ map packed (meets (placeOf e) k l) ≡ map packed (one b (r .cover) ++ meets (placeOf e) k l)
+      go true = refl
+      go false = refl
+
+  pub meets-parts : (l : List Entry) → Every (Good C) l → Every (Parts (whole C)) (meets (placeOf e) k l)
+  unfolding meets
+  meets-parts l h =
+      every-each (Good C) (Parts (whole C)) (λ r. one (not (eqb (r .mark .train) k) && same (r .mark .place) (placeOf e)) (r .cover))
+      (λ r g. every-one (Parts (whole C)) (not (eqb (r .mark .train) k) && same (r .mark .place) (placeOf e)) (r .cover) (λ q. g .1)) l h
+
+  -- ---- the pieces of a cover
+
+  pub pieces-row : (q : Job) → q .place ≡ e → q .train ≡ k → q .cap ≡ capOf (tables C) e → (l : List Entry) → Every (Good C) l → (p : Cover) → Parts (whole C) p
+      → carried (q .cap) (metFor q (map rowOf l)) 0 (packed p) ≡ map packedPiece (piecesAmong C (placeOf e) (meets (placeOf e) k l) p)
+  unfolding metFor capOf piecesAmong
+  pieces-row q f g c l h p ps =
+      ap₂ (λ (x : ℕ) (es : List ℕ). carried x es 0 (packed p)) c (ap₂ (λ (x j : ℕ). cond (ltb x 64) (metOf x j (map rowOf l)) []) f g)
+      ∙ go (ltb e 64) refl
+      ∙ ap (λ (z : Bool). map packedPiece (cond z (piece p false ∷ []) (carry (capacity C (placeOf e)) (meets (placeOf e) k l) 0 p))) (sym (gone-test e low))
+    where
+      go : (b : Bool) → ltb e 64 ≡ b
+          → carried (cond b (getD (tables C) (176 + e) 0) 1) (cond b (metOf e k (map rowOf l)) []) 0 (packed p)
+          ≡ map packedPiece (cond (eqb e 64) (piece p false ∷ []) (carry (capacity C (placeOf e)) (meets (placeOf e) k l) 0 p))
+      go true z =
+          ap₂ (λ (x : ℕ) (es : List ℕ). carried x es 0 (packed p)) (table-capacity C e (ltb-true e 64 z)) (met-rows l h)
+          ∙ carried-carry (capacity C (placeOf e)) (packable-every C sound (meets (placeOf e) k l) (meets-parts l h)) 0 p (proper-packable C sound p ps)
+          ∙ ap (λ (y : Bool). map packedPiece (cond y (piece p false ∷ []) (carry (capacity C (placeOf e)) (meets (placeOf e) k l) 0 p))) (sym (ne-eqb e 64 (λ y. omega (arith, ltb-true e 64 z))))
+      go false z = free ∙ ap (λ (y : Bool). map packedPiece (cond y (piece p false ∷ []) (carry (capacity C (placeOf e)) (meets (placeOf e) k l) 0 p))) (sym (eq-eqb e 64 (omega (arith, ltb-false e 64 z))))
+        where
+          free : carried 1 [] 0 (packed p) ≡ map packedPiece (piece p false ∷ [])
+          free = free-piece (packed p)
+
+-- ---- sweeping
+
+pub swept-rows : (C : Case) → Sound C → (t : ℕ) (l : List Entry) → Every (Good C) l → sweptOf t (map rowOf l) ≡ map rowOf (keep (λ r. not (ended t (r .mark))) l)
+unfolding sweptOf rowOf
+swept-rows C sound t [] h = refl
+swept-rows C sound t (r ∷ l) h =
+    ap₂ (λ (z : Bool) (w : List Row). one (not z) (rowOf r) ++ w) (ended-state (r .mark) (bounded-fit C sound (r .mark) (h .0 .0)) t) (swept-rows C sound t l (h .1))
+    ∙ go (not (ended t (r .mark)))
+  where
+    go : (b : Bool) → one b (rowOf r) ++ map rowOf (keep (λ r. not (ended t (r .mark))) l) ≡ map rowOf (one b r ++ keep (λ r. not (ended t (r .mark))) l)
+    go true = refl
+    go false = refl

@@ -1,0 +1,70 @@
+-- `serving::serve` meets its contract: where the pieces use the room up, they leave no place in the rows; else all of them are written.
+-- Assumes nothing.
+use mathlib.Core.Path.{refl}
+use Prim.Native.Nat.{_/_}
+use native.Mathlib.Omega.{arith}
+use lib.ListN.{length}
+use Rattle.cut.specs.Cut.{carried, Room}
+use Rattle.cut.specs.declared.Pieces.{Pieces}
+use Rattle.cut.specs.Written.{wrote-held-length}
+use Rattle.serving.specs.Outputs.{pieces-count, pieces-over, pieces-fit}
+use borrow.Author.Needs.{needs}
+use Rattle.serving.proofs.serve.Statement.{statement}
+use Rattle.serving.proofs.serve.Tie as tie
+use Rattle.serving.proofs.serve.Reads as reads
+use Rattle.serving.proofs.serve.Lts as lts
+use Rattle.cut.proofs.carry.Reads as carry-reads
+use Rattle.rows.proofs.hold.Reads as hold-reads
+
+carry-requires : tie.Need-carry-requires
+carry-requires c κs = (record { count = omega arith; heldLong = omega arith; enteringLong = omega arith }, omega arith)
+
+add-if1 : tie.Need-add-if1
+add-if1 c =
+    let s = c .before .before .before .before .before .before .before .before .before .before .before .before .args in
+    omega (arith, pieces-count (length (s .rows .now) / 2) (record { held = 0; entering = s .a }) (carried (s .q .cap) (s .met .now) 0 (s .c)) (record { count = omega arith; heldLong = omega arith; enteringLong = omega arith }) refl (c .before .before .before .before .before .carry .ensures))
+
+same-length : tie.Need-same-length
+same-length c = search needs
+
+same-length-2 : tie.Need-same-length-2
+same-length-2 c = search needs
+
+returns : tie.Need-returns
+returns c =
+    let s = c .before .before .before .before .before .before .before .before .before .before .before .before .before .args in
+    pieces-over (length (s .rows .now) / 2) (record { held = 0; entering = s .a }) (carried (s .q .cap) (s .met .now) 0 (s .c)) (record { count = omega arith; heldLong = omega arith; enteringLong = omega arith }) refl (c .before .before .before .before .before .before .carry .ensures) (s .rows .now) (s .s) (s .d) (omega arith) (omega arith)
+
+hold-requires : tie.Need-hold-requires
+hold-requires c κs =
+    let s = c .before .before .before .before .before .before .before .before .before .before .before .before .before .before .before .args in
+    (omega (arith, pieces-count (length (s .rows .now) / 2) (record { held = 0; entering = s .a }) (carried (s .q .cap) (s .met .now) 0 (s .c)) (record { count = omega arith; heldLong = omega arith; enteringLong = omega arith }) refl (c .before .before .before .before .before .before .before .before .carry .ensures), wrote-held-length (c .before .before .before .before .before .before .before .before .carry .ensures)), search needs)
+
+same-length-3 : tie.Need-same-length-3
+same-length-3 c = search needs
+
+same-length-4 : tie.Need-same-length-4
+same-length-4 c = search needs
+
+same-length-5 : tie.Need-same-length-5
+same-length-5 c = search needs
+
+returns-2 : tie.Need-returns-2
+returns-2 c =
+    let s = c .before .before .before .before .before .before .before .before .before .before .before .before .before .before .before .before .before .before .args in
+    pieces-fit (length (s .rows .now) / 2) (record { held = 0; entering = s .a }) (carried (s .q .cap) (s .met .now) 0 (s .c)) (record { count = omega arith; heldLong = omega arith; enteringLong = omega arith }) refl (c .before .before .before .before .before .before .before .before .before .before .before .carry .ensures) (s .s) (s .d) (c .before .before .before .before .before .if1 .left) (omega arith) (c .before .before .hold .ensures)
+
+pub serve-spec : {M : Type 1} → statement M
+serve-spec =
+    tie.close
+    (tie.spec
+    carry-requires
+    add-if1
+    same-length
+    same-length-2
+    returns
+    hold-requires
+    same-length-3
+    same-length-4
+    same-length-5
+    returns-2)

@@ -1,0 +1,3 @@
+pub mod Pass
+pub mod Outputs
+pub mod Passing

@@ -1,0 +1,88 @@
+-- `visiting::served` meets its contract, by `served-law` from what its four calls ensure. Assumes nothing.
+use mathlib.Core.Path.{sym, ap, _∙_}
+use native.Mathlib.Omega.{arith}
+use Rattle.asking.specs.Ask.{jobOf}
+use Rattle.visiting.specs.Visiting.{served-law, asker-is, asked-is}
+use borrow.Author.Needs.{needs}
+use Rattle.visiting.proofs.served.Statement.{statement}
+use Rattle.visiting.proofs.served.Tie as tie
+use Rattle.visiting.proofs.served.Reads as reads
+use Rattle.visiting.proofs.served.Lts as lts
+use Rattle.visiting.proofs.arrive.Reads as arrive-reads
+use Rattle.asking.proofs.assign.Reads as assign-reads
+use Rattle.visiting.proofs.note.Reads as note-reads
+use Rattle.serving.proofs.pass.Reads as pass-reads
+
+mul-s : tie.Need-mul-s
+mul-s c = search needs
+
+mul-s-2 : tie.Need-mul-s-2
+mul-s-2 c = search needs
+
+slice-read-s : tie.Need-slice-read-s
+slice-read-s c = search needs
+
+assign-requires : tie.Need-assign-requires
+assign-requires c κs = search needs
+
+pass-requires : tie.Need-pass-requires
+unfolding jobOf
+pass-requires c κs = (c .before .before .before .before .before .before .before .before .before .before .before .before .before .before .before .pre .0, (c .before .before .before .before .before .before .before .before .before .before .before .before .before .before .before .pre .1 .1 .1, omega (arith, c .before .before .before .before .before .before .before .before .before .before .before .before .before .before .before .pre .1 .1 .0), rw (c .before .before .before .before .before .assign .ensures) (c .before .before .before .before .before .before .before .before .before .before .before .before .before .before .before .pre .1 .1 .2)))
+
+arrive-requires : tie.Need-arrive-requires
+unfolding jobOf
+arrive-requires c κs = (c .before .before .before .before .before .before .before .before .before .before .before .before .before .before .before .before .before .before .before .before .before .before .before .before .before .before .before .before .pre .1 .0 .1, c .before .before .before .before .before .before .before .before .before .before .before .before .pass .ensures .few, rw (c .before .before .before .before .before .before .before .before .before .before .before .before .before .before .before .before .before .before .assign .ensures) (c .before .before .before .before .before .before .before .before .before .before .before .before .before .before .before .before .before .before .before .before .before .before .before .before .before .before .before .before .pre .1 .0 .0 .train), rw (c .before .before .before .before .before .before .before .before .before .before .before .before .before .before .before .before .before .before .assign .ensures) (c .before .before .before .before .before .before .before .before .before .before .before .before .before .before .before .before .before .before .before .before .before .before .before .before .before .before .before .before .pre .1 .0 .0 .minute))
+
+note-requires : tie.Need-note-requires
+note-requires c κs = (c .before .before .before .before .before .before .before .before .before .before .before .before .before .before .before .before .before .before .before .before .before .before .before .before .before .before .before .before .before .before .before .before .pre .1 .0 .1, c .before .before .before .before .before .before .before .before .before .before .before .before .before .before .before .before .before .before .before .before .before .before .before .before .before .before .before .before .before .before .before .before .pre .1 .0 .0 .minute)
+
+same-length : tie.Need-same-length
+same-length c = search needs
+
+same-length-2 : tie.Need-same-length-2
+same-length-2 c = search needs
+
+same-length-3 : tie.Need-same-length-3
+same-length-3 c = search needs
+
+same-length-4 : tie.Need-same-length-4
+same-length-4 c = search needs
+
+same-length-5 : tie.Need-same-length-5
+same-length-5 c = search needs
+
+same-length-6 : tie.Need-same-length-6
+same-length-6 c = search needs
+
+same-length-7 : tie.Need-same-length-7
+same-length-7 c = search needs
+
+returns : tie.Need-returns
+returns c =
+    let s = c .before .before .before .before .before .before .before .before .before .before .before .before .before .before .before .before .before .before .before .before .before .before .before .before .before .before .before .before .before .before .before .before .before .before .before .args in
+    let p = c .before .before .before .before .before .before .before .before .before .before .before .before .before .before .before .before .before .before .before .before .before .before .before .before .before .before .before .before .before .before .before .before .before .before .before .pre in
+    let T = s .tables .now in
+    let asker = asker-is T (s .t) (s .e) (s .k) (s .i) (s .n) (s .rows .now) (p .1 .1 .0) (omega (arith, p .1 .1 .1)) (p .1 .1 .2) (p .1 .1 .3) in
+    let asked = asked-is T (s .t) (s .e) (s .k) (s .i) (s .n) (s .rows .now) (p .1 .1 .0) (omega (arith, p .1 .1 .1)) (p .1 .1 .2) (p .1 .1 .3) in
+    served-law T (s .t) (s .e) (s .k) (s .n) (s .rows .now) (s .weights .now) (s .want .now) (c .before .before .before .before .before .before .before .before .before .before .before .before .before .before .before .before .before .before .before .before .before .before .before .before .before .assign .result) (p .1 .0 .0) (p .1 .0 .1) (p .0 .rows-are) (p .1 .1 .1) asked
+    (c .before .before .before .before .before .before .before .before .before .before .before .before .before .before .before .before .before .before .before .before .before .before .before .before .before .assign .ensures ∙ ap (jobOf T (s .t) (s .e) (s .k)) (sym asker)) (p .1 .1 .4) (omega (arith, c .before .before .before .before .before .before .before .before .before .before .before .before .before .before .before .before .before .before .rows)) (c .before .before .before .before .before .before .before .before .before .before .before .before .before .before .before .before .before .before .before .pass .ensures) (c .before .before .before .before .before .before .arrive .ensures) (c .before .before .note .ensures)
+
+pub served-spec : {M : Type 1} → statement M
+served-spec =
+    tie.close
+    (tie.spec
+    mul-s
+    mul-s-2
+    slice-read-s
+    assign-requires
+    pass-requires
+    arrive-requires
+    note-requires
+    same-length
+    same-length-2
+    same-length-3
+    same-length-4
+    same-length-5
+    same-length-6
+    same-length-7
+    returns)

@@ -1,0 +1,3 @@
+pub mod Visit
+pub mod Noting
+pub mod Visiting
