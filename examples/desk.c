@@ -13,11 +13,13 @@ enum { HANDED = 4096 };
 static size_t read_file(const char *name, uint8_t *bytes)
 {
     FILE *file = fopen(name, "rb");
-    size_t length = 0;
-    if (file != NULL) {
-        length = fread(bytes, 1, HANDED, file);
-        fclose(file);
+    size_t length;
+    if (file == NULL) {
+        fprintf(stderr, "desk: %s can't be read\n", name);
+        exit(2);
     }
+    length = fread(bytes, 1, HANDED, file);
+    fclose(file);
     return length;
 }
 

@@ -77,7 +77,7 @@ fn take_track(case: &mut Case, body: &[u8]) -> Result<(), u8> {
 }
 
 /// Whether some track leads from one station to the other.
-fn has_track(case: &Case, from: usize, to: usize) -> bool {
+pub fn has_track(case: &Case, from: usize, to: usize) -> bool {
     case.tracks
         .iter()
         .any(|track| track.from == from && track.to == to)
@@ -106,7 +106,7 @@ fn take_train(case: &mut Case, body: &[u8], offset: usize) -> Result<(), u8> {
 }
 
 /// A stop: station, arrival, departure.
-fn read_stop(bytes: &[u8]) -> Stop {
+pub fn read_stop(bytes: &[u8]) -> Stop {
     Stop {
         station: usize::from(bytes[0]),
         arrival: number(&bytes[1..3]),
@@ -161,7 +161,7 @@ pub fn take_table(tables: &mut Vec<Table>, body: &[u8]) -> Result<(), u8> {
 }
 
 /// A pair of a delay table: delay and weight.
-fn read_delay(bytes: &[u8]) -> Delay {
+pub fn read_delay(bytes: &[u8]) -> Delay {
     Delay {
         minutes: u32::from(bytes[0]),
         weight: u64::from(bytes[1]),

@@ -100,6 +100,36 @@ pub fn sound(chance: &mut Chance, size: Size) -> Files {
     Files { case, book }
 }
 
+/// Draws a sound case whose trains crowd into one station: with this capacity, and more trains than that.
+pub fn crowded(chance: &mut Chance, capacity: usize) -> Files {
+    let count = chance.between(capacity + 1, 7);
+    let mut case = head(40, chance.below(3) as u8, 1_024);
+    case.extend(station(capacity as u8));
+    case.extend(station(chance.between(1, 3) as u8));
+    case.extend(track(0, 1, chance.between(1, 3) as u8));
+    let types = chance.between(1, 2);
+    for _ in 0..count {
+        let (arrival, stay) = (chance.below(4) as u16, chance.between(2, 7) as u16);
+        let departure = arrival + stay;
+        let end = departure + chance.between(1, 3) as u16;
+        let train_type = 10 * chance.below(types) as u8;
+        let stops = [(0, arrival, departure), (1, end, end + 1)];
+        case.extend(train(chance.below(3) as u8, train_type, &stops));
+    }
+    let most = if count > 4 { 2 } else { 3 };
+    let size = Size {
+        trains: (count, count),
+        delays: (1, most),
+        small_room: 0,
+        stretch: 1,
+    };
+    for number in 0..types as u8 {
+        case.extend(draw_table(chance, size, 10 * number));
+    }
+    let book = Vec::new();
+    Files { case, book }
+}
+
 /// A line of 2 to 8 stations in a drawn order, with tracks along it and some back and some past a station.
 fn draw_line(chance: &mut Chance) -> Line {
     let count = [2, 2, 3, 3, 3, 4, 4, 5, 6, 8][chance.below(10)];

@@ -1,6 +1,7 @@
 //! The joint run of all choices, entry by entry.
 
 use crate::cover::{cut, first_cover, weight, Cover, Cut};
+use crate::errors::{by_entries, cut_blocks, Error};
 use crate::plan::{Place, Plan};
 use crate::refusal;
 use std::collections::BTreeMap;
@@ -69,7 +70,7 @@ impl JointRun {
     /// Visits one minute: old blocks go, then the elements are visited and their asking entries served.
     pub fn visit(&mut self, plan: &Plan, t: u32) -> Result<(), u8> {
         self.list
-            .retain(|entry| entry.kind == Kind::Stands || entry.minute >= t);
+            .retain(|entry| entry.kind == Kind::Stands || plan.still_blocks(entry.minute, t));
         for element in plan.elements() {
             for asker in self.askers(plan, element, t) {
                 self.serve(plan, &asker, element, t)?;
@@ -101,6 +102,9 @@ impl JointRun {
             ..asker.clone()
         });
         self.list.splice(row..=row, waiting);
+        if plan.error == Some(Error::CuttingBlocks) {
+            cut_blocks(&mut self.list, asker, &entering);
+        }
         for cover in entering {
             self.enter(plan, asker, element, t, cover);
         }
@@ -133,11 +137,14 @@ impl JointRun {
 
     /// The pieces of an asking entry, which meets the other trains' entries on the element in list order.
     fn cut_asker(&self, plan: &Plan, asker: &Entry, element: Place) -> Cut {
-        let Some(capacity) = plan.capacity(element) else {
-            return Cut {
-                held: Vec::new(),
-                entering: vec![asker.cover.clone()],
-            };
+        let capacity = match plan.capacity(element) {
+            Some(capacity) => capacity,
+            None => {
+                return Cut {
+                    held: Vec::new(),
+                    entering: vec![asker.cover.clone()],
+                }
+            }
         };
         let to_meet: Vec<Cover> = self
             .list
@@ -145,7 +152,10 @@ impl JointRun {
             .filter(|entry| entry.train != asker.train && entry.place == element)
             .map(|entry| entry.cover.clone())
             .collect();
-        cut(&asker.cover, capacity, &to_meet)
+        match plan.error {
+            Some(Error::CountingEntries) => by_entries(&asker.cover, capacity, to_meet.len()),
+            _ => cut(&asker.cover, capacity, &to_meet),
+        }
     }
 
     /// The row of an asking entry; no two entries are alike, since one train's standing entries share no choice.

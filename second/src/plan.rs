@@ -1,5 +1,6 @@
 //! What both runs need of an accepted pair of files: places, the way of each train, capacities and planned lengths.
 
+use crate::errors::Error;
 use crate::reader::{read, Accepted, Case, Head, Table, Train};
 use crate::refusal::Refusal;
 
@@ -25,6 +26,8 @@ pub struct Plan {
     pub head: Head,
     pub case: Case,
     pub tables: Vec<Table>,
+    /// An error of the trade that a test builds in; a plan that was read has none.
+    pub error: Option<Error>,
     ways: Vec<Vec<Step>>,
 }
 
@@ -37,6 +40,7 @@ impl Plan {
             head,
             case,
             tables,
+            error: None,
             ways,
         })
     }
@@ -50,7 +54,18 @@ impl Plan {
     pub fn elements(&self) -> Vec<Place> {
         let stations = (0..self.case.stations.len()).map(Place::Station);
         let tracks = (0..self.case.tracks.len()).map(Place::Track);
-        stations.chain(tracks).chain([Place::Gone]).collect()
+        match self.error {
+            Some(Error::TracksFirst) => tracks.chain(stations).chain([Place::Gone]).collect(),
+            _ => stations.chain(tracks).chain([Place::Gone]).collect(),
+        }
+    }
+
+    /// Whether a block with this end still stands in minute t: it goes when its end is before t.
+    pub fn still_blocks(&self, end: u32, t: u32) -> bool {
+        match self.error {
+            Some(Error::FreeingEarly) => end > t,
+            _ => end >= t,
+        }
     }
 
     /// How many trains an element takes; the way out has no limit, and outside neither.

@@ -90,6 +90,15 @@ pub fn read(case: &[u8], book: &[u8]) -> Result<Accepted, Refusal> {
 
 /// Reads a case to its end.
 pub fn read_case(bytes: &[u8]) -> Result<(Head, Case), Refusal> {
+    let (case, _) = read_fields(bytes)?;
+    match case.head.clone() {
+        Some(head) if !case.stations.is_empty() && !case.trains.is_empty() => Ok((head, case)),
+        _ => Err(Refusal::at(COUNT, IN_CASE, bytes.len())),
+    }
+}
+
+/// Reads the fields of a case one after another, and gives the last one's tag too; what must stand at the end isn't judged yet.
+pub fn read_fields(bytes: &[u8]) -> Result<(Case, Option<u8>), Refusal> {
     let mut case = Case::default();
     let mut tag_before = None;
     let mut offset = 0;
@@ -104,10 +113,7 @@ pub fn read_case(bytes: &[u8]) -> Result<(Head, Case), Refusal> {
         tag_before = Some(tag);
         offset += 3 + body.len();
     }
-    match case.head.clone() {
-        Some(head) if !case.stations.is_empty() && !case.trains.is_empty() => Ok((head, case)),
-        _ => Err(Refusal::at(COUNT, IN_CASE, bytes.len())),
-    }
+    Ok((case, tag_before))
 }
 
 /// Reads a book to its end: delay tables only, maybe none.
@@ -157,7 +163,7 @@ fn read_field(
 }
 
 /// The body lengths that a tag allows.
-fn possible_length(tag: u8, length: usize) -> bool {
+pub fn possible_length(tag: u8, length: usize) -> bool {
     match tag {
         HEAD_TAG => length == 5,
         STATION_TAG => length == 1,

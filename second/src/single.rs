@@ -57,7 +57,7 @@ fn start(plan: &Plan, choice: &[u8]) -> State {
 
 /// Visits one minute: old blocks go, then the elements are visited and their askers served.
 fn visit(plan: &Plan, state: &mut State, t: u32, arrivals: &mut [Option<u32>]) {
-    state.blocks.retain(|block| block.end >= t);
+    state.blocks.retain(|block| plan.still_blocks(block.end, t));
     for element in plan.elements() {
         for train in askers(plan, state, element, t) {
             if has_room(plan, state, element) {

@@ -4,9 +4,10 @@ use second::cover::covers;
 use second::enumeration::{all_choices, arrivals};
 use second::generator::{sound, Chance, Files, Size};
 use second::joint::{Entry, JointRun, Kind};
-use second::plan::{Place, Plan};
+use second::plan::Plan;
 use second::refusal;
 use second::single::{self, Block, SingleRun, Standing, State};
+use second::trace::{held_counts, split_further};
 
 /// What was seen over many cases.
 #[derive(Debug, Default)]
@@ -15,9 +16,8 @@ struct Seen {
     refused_room: usize,
     longest_list: usize,
     not_arrived: usize,
-    split_once: usize,
-    split_twice: usize,
-    split_thrice: usize,
+    /// What splits have left of held entries, by generation.
+    splits: [usize; 32],
     held_at_capacity_2: usize,
 }
 
@@ -27,7 +27,7 @@ fn compare(files: &Files, seen: &mut Seen) {
     let choices = all_choices(&plan);
     let runs: Vec<SingleRun> = choices.iter().map(|c| single::run(&plan, c)).collect();
     let mut joint = JointRun::start(&plan).expect("the first list is short");
-    let mut splits = vec![0; joint.list.len()];
+    let mut generations = vec![0; joint.list.len()];
     for t in 0..=plan.head.last_minute {
         let before = joint.list.clone();
         if let Err(number) = joint.visit(&plan, t) {
@@ -35,9 +35,10 @@ fn compare(files: &Files, seen: &mut Seen) {
             seen.refused_room += 1;
             return;
         }
-        splits = count_splits(&before, &splits, &joint.list, seen);
+        generations = split_further(&before, &generations, &joint.list, &mut seen.splits);
         seen.longest_list = seen.longest_list.max(joint.list.len());
-        seen.held_at_capacity_2 += held_at(&plan, &joint.list, t, 2);
+        let held = held_counts(&plan, &joint.list, t);
+        seen.held_at_capacity_2 += held.iter().filter(|count| **count == 2).count();
         for (choice, run) in choices.iter().zip(&runs) {
             compare_choice(&plan, &joint.list, choice, &run.after[t as usize]);
         }
@@ -83,46 +84,6 @@ fn compare_choice(plan: &Plan, list: &[Entry], choice: &[u8], state: &State) {
     }
 }
 
-/// How often each row was split while held at its place: once more than its row before if its cover has shrunk since.
-fn count_splits(before: &[Entry], splits: &[u32], list: &[Entry], seen: &mut Seen) -> Vec<u32> {
-    let mut now = Vec::new();
-    for entry in list {
-        let came_from = before.iter().position(|old| is_rest_of(entry, old));
-        let count = match came_from {
-            None => 0,
-            Some(row) => splits[row] + u32::from(before[row].cover != entry.cover),
-        };
-        let shrunk = came_from.is_some_and(|row| before[row].cover != entry.cover);
-        match (shrunk, count) {
-            (true, 1) => seen.split_once += 1,
-            (true, 2) => seen.split_twice += 1,
-            (true, 3) => seen.split_thrice += 1,
-            _ => {}
-        }
-        now.push(count);
-    }
-    now
-}
-
-/// Whether a standing entry is what is left of an older one that waits at the same place since the same minute.
-fn is_rest_of(entry: &Entry, old: &Entry) -> bool {
-    let same_wait = (entry.train, entry.place, entry.minute) == (old.train, old.place, old.minute);
-    let standing = entry.kind == Kind::Stands && old.kind == Kind::Stands;
-    let within = entry.cover.iter().zip(&old.cover).all(|(a, b)| a & !b == 0);
-    same_wait && standing && within && entry.place != Place::Gone
-}
-
-/// How many entries are held after a minute before an element of this capacity.
-fn held_at(plan: &Plan, list: &[Entry], t: u32, capacity: usize) -> usize {
-    let held = |entry: &&Entry| {
-        let next = plan.next(entry.train, entry.place);
-        entry.kind == Kind::Stands
-            && entry.minute <= t
-            && next.and_then(|element| plan.capacity(element)) == Some(capacity)
-    };
-    list.iter().filter(held).count()
-}
-
 /// Compares the cases of a range of seeds.
 fn compare_seeds(seeds: std::ops::Range<u64>, size: Size) -> Seen {
     let mut seen = Seen::default();
@@ -145,7 +106,7 @@ fn size(trains: (usize, usize), delays: (usize, usize), stretch: usize) -> Size 
 
 /// Asserts that held entries were split a first, a second and a third time, and that elements of capacity 2 were full.
 fn assert_contention(seen: &Seen) {
-    assert!(seen.split_once > 0 && seen.split_twice > 0 && seen.split_thrice > 0);
+    assert!(seen.splits[1..=3].iter().all(|splits| *splits > 0));
     assert!(seen.held_at_capacity_2 > 0);
 }
 

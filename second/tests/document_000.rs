@@ -17,6 +17,7 @@
 //! - The drawings of the example are not in the text, so due minutes that only they show are not compared.
 
 use second::cover::covers;
+use second::inputs::{example_2_2_5, TABLE_4_1};
 use second::joint::{Entry, JointRun, Kind};
 use second::plan::{Place, Plan};
 use second::reader::{read_book, read_case};
@@ -24,16 +25,7 @@ use second::writer::{head, station, table, track, train};
 
 /// The example as a case.
 fn example() -> Plan {
-    let case = [
-        head(20, 1, 1024),
-        station(1),
-        station(1),
-        track(0, 1, 1),
-        train(0, 0, &[(0, 1, 2), (1, 3, 4)]),
-        train(0, 0, &[(0, 4, 5), (1, 6, 7)]),
-        table(0, &[(0, 50), (1, 30), (2, 20)]),
-    ];
-    Plan::read(&case.concat(), &[]).expect("the example is a sound case")
+    Plan::read(&example_2_2_5(), &[]).expect("the example is a sound case")
 }
 
 /// The list after a minute of the example.
@@ -183,26 +175,8 @@ fn minute_5_lets_one_of_the_held_in() {
     }
 }
 
-/// The support and the hundredths of a row of table 4.1.
-type Row = &'static [(u8, u8)];
-
-/// The two tables that 01 calls accepted.
-const NAMED: [Row; 2] = [
-    &[(0, 50), (1, 17), (4, 18), (10, 15)],
-    &[(0, 80), (1, 16), (4, 4)],
-];
-
-/// All eight rows of table 4.1, in its order.
-const ALL: [Row; 8] = [
-    NAMED[0],
-    &[(0, 50), (1, 32), (4, 18)],
-    &[(0, 60), (10, 20), (30, 20)],
-    &[(0, 50), (10, 25), (30, 25)],
-    &[(0, 50), (10, 25), (30, 25)],
-    NAMED[1],
-    &[(0, 50), (10, 25), (30, 25)],
-    &[(0, 50), (10, 25), (30, 25)],
-];
+/// The rows of table 4.1 that 01 names: the first and the sixth.
+const NAMED: [&[(u8, u8)]; 2] = [TABLE_4_1[0], TABLE_4_1[5]];
 
 /// A case whose one train has type 7, followed by these tables.
 fn case_with(tables: &[u8]) -> Vec<u8> {
@@ -214,6 +188,12 @@ fn case_with(tables: &[u8]) -> Vec<u8> {
         train(0, 7, &[(0, 1, 2), (1, 3, 4)]),
     ];
     [&fields.concat(), tables].concat()
+}
+
+#[test]
+fn the_two_tables_that_01_names_are_the_first_and_the_sixth_row() {
+    assert_eq!(NAMED[0], [(0, 50), (1, 17), (4, 18), (10, 15)]);
+    assert_eq!(NAMED[1], [(0, 80), (1, 16), (4, 4)]);
 }
 
 #[test]
@@ -234,7 +214,7 @@ fn the_two_tables_named_by_01_are_accepted_in_a_case_and_in_a_book() {
 
 #[test]
 fn all_of_table_4_1_is_accepted_in_a_case_and_in_a_book() {
-    let numbered = ALL.iter().enumerate();
+    let numbered = TABLE_4_1.iter().enumerate();
     let bytes: Vec<u8> = numbered
         .flat_map(|(number, row)| table(number as u8, row))
         .collect();

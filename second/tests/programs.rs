@@ -7,6 +7,8 @@ mod listed;
 
 use example::shift_example;
 use listed::listed;
+use second::inputs::{made, FIXED_SEEDS, OF_A_SEED};
+use second::vectors::of_seed;
 use second::writer::{from_hex, table, to_hex};
 use std::path::PathBuf;
 use std::process::Command;
@@ -64,8 +66,13 @@ fn second_hands_on_4_096_bytes_at_most() {
 
 /// The lines that `vectors` prints.
 fn vectors(seed: &str, count: &str) -> Vec<String> {
-    let output = Command::new(env!("CARGO_BIN_EXE_vectors"))
-        .args([seed, count])
+    lines_of(env!("CARGO_BIN_EXE_vectors"), &[seed, count])
+}
+
+/// The lines that a program prints.
+fn lines_of(program: &str, words: &[&str]) -> Vec<String> {
+    let output = Command::new(program)
+        .args(words)
         .output()
         .expect("the program starts");
     assert!(output.status.success());
@@ -99,4 +106,25 @@ fn vectors_have_their_form_and_are_the_same_for_the_same_seed() {
         inputs += usize::from(fields[0] == "reading" || fields[0] == "accepted");
     }
     assert_eq!(inputs, 300);
+}
+
+#[test]
+fn exports_prints_the_vectors_of_a_seed_and_without_one_the_fixed_ones() {
+    let exports = env!("CARGO_BIN_EXE_exports");
+    assert_eq!(lines_of(exports, &["7"]), of_seed(7));
+    assert_ne!(of_seed(7), of_seed(8));
+    let fixed = lines_of(exports, &[]);
+    let of_made = fixed.len()
+        - (1..=FIXED_SEEDS)
+            .map(|seed| of_seed(seed).len())
+            .sum::<usize>();
+    assert_eq!(fixed[of_made..of_made + of_seed(1).len()], of_seed(1));
+    let inputs = |lines: &[String]| {
+        let starts = lines
+            .iter()
+            .filter(|line| line.starts_with("reading|") || line.starts_with("accepted|"));
+        starts.count()
+    };
+    assert_eq!(inputs(&fixed[..of_made]), made().len());
+    assert_eq!(inputs(&fixed[of_made..]), FIXED_SEEDS as usize * OF_A_SEED);
 }

@@ -140,9 +140,8 @@ outsides-fit x [] c f g = tt
 outsides-fit x (s ∷ p) [] f g = tt
 outsides-fit [] (s ∷ p) (u ∷ c) f g = absurd (omega arith)
 outsides-fit (d ∷ x) (s ∷ p) (u ∷ c) f g =
-    every-append (Fits (d ∷ x)) (one (not (isEmpty (without s u))) (without s u ∷ p)) (map (λ q. u ∷ q) (outsides p c))
-    (every-one (Fits (d ∷ x)) (not (isEmpty (without s u))) (without s u ∷ p) (λ h. f))
-    (every-map (Fits x) (Fits (d ∷ x)) (λ q. u ∷ q) (λ q h. ap suc h) (outsides p c) (outsides-fit x p c (omega arith) (omega arith)))
+    let later = every-map (Fits x) (Fits (d ∷ x)) (λ q. u ∷ q) (λ q h. ap suc h) (outsides p c) (outsides-fit x p c (omega arith) (omega arith)) in
+    search (every-append, every-one, later)
 
 module _ {ℓ} {A : Type ℓ} (v : A) where
   -- a piece that is skipped if nothing is left of its set

@@ -1,15 +1,15 @@
 -- Each cover of the joint run has one set per train, none empty, each listing delays of the train's whole set in its order, so none twice.
 -- Cutting only keeps some delays of a set, and drops a set that would be left empty with its piece. Assumes nothing.
 use mathlib.Core.Path.{_≡_, refl, sym, ap, _∙_, subst}
-use mathlib.Core.Bool.{Bool, true, false, not, _&&_, _||_, cond, false≢true}
-use mathlib.Core.List.{List, [], _∷_, map}
-use Prim.Native.Nat.{ℕ, zero, suc, _+_, _≤_, _<_}
+use mathlib.Core.Bool.{Bool, true, false, _&&_, _||_, cond, false≢true}
+use mathlib.Core.List.{List, [], _∷_}
+use Prim.Native.Nat.{ℕ, zero, suc, _≤_, _<_}
 use native.Mathlib.Omega.{arith}
 use lib.ListN.{length, getD, set}
-use lib.Dec.{leb, ltb, eqb}
+use lib.Dec.{eqb}
 use borrow.Author.Tests.{not-true}
 use Rattle.rules.specs.Lists.{one, each, keep, any, tick, count, has}
-use Rattle.rules.specs.Joint.{Cover, common, without, isEmpty, inside, apart, outsides, cut, carry}
+use Rattle.rules.specs.Joint.{Cover, common, without, isEmpty, inside, apart, outsides, Piece, cut, carry}
 use Rattle.simulation.specs.Lists.{each-each, each-one, each-same, Every, every-append, every-map, every-one, every-each, sum-keep}
 use Rattle.simulation.specs.Covers.{has-keep}
 
@@ -100,10 +100,19 @@ outsides-parts ws [] c h k = tt
 outsides-parts ws (s ∷ p) [] h k = tt
 outsides-parts [] (s ∷ p) (u ∷ c) h k = absurd h
 outsides-parts (w ∷ ws) (s ∷ p) (u ∷ c) h k =
-    every-append (Parts (w ∷ ws)) (one (not (isEmpty (keep (λ d. not (has u d)) s))) (keep (λ d. not (has u d)) s ∷ p)) (map (λ q. u ∷ q) (outsides p c))
-    (every-one (Parts (w ∷ ws)) (not (isEmpty (keep (λ d. not (has u d)) s))) (keep (λ d. not (has u d)) s ∷ p)
-    (λ e. (keep-part w s (λ d. not (has u d)) (h .0) (not-true (isEmpty (keep (λ d. not (has u d)) s)) e), h .1)))
-    (every-map (Parts ws) (Parts (w ∷ ws)) (λ q. u ∷ q) (λ q g. (k .0, g)) (outsides p c) (outsides-parts ws p c (h .1) (k .1)))
+    let later = every-map (Parts ws) (Parts (w ∷ ws)) (λ q. u ∷ q) (λ q g. (k .0, g)) (outsides p c) (outsides-parts ws p c (h .1) (k .1)) in
+    search (every-append, every-one, keep-part, not-true, later)
+
+-- one turn of a piece, where what is carried on stays a part, whatever its count
+cut-parts : (ws : Cover) (full few none : Bool) (on : ℕ → Cover → List Piece) (n : ℕ) (p c : Cover)
+    → ((m : ℕ) (q : Cover) → Parts ws q → Every (λ r. Parts ws (r .cover)) (on m q)) → Parts ws p → (none ≡ false → Parts ws c)
+    → Every (λ r. Parts ws (r .cover)) (cut full few none on n p c)
+cut-parts ws true few none on n p c carried h k = (h, tt)
+cut-parts ws false true none on n p c carried h k = (h, tt)
+cut-parts ws false false true on n p c carried h k = carried _ p h
+cut-parts ws false false false on n p c carried h k =
+    let outer = outsides-parts ws p c h (k refl) in
+    search (every-append, every-each, carried, k)
 
 -- the pieces of a cover
 pub carry-parts : (ws : Cover) (cap : ℕ) (qs : List Cover) → Every (Parts ws) qs → (n : ℕ) (p : Cover) → Parts ws p
@@ -111,15 +120,5 @@ pub carry-parts : (ws : Cover) (cap : ℕ) (qs : List Cover) → Every (Parts ws
 unfolding carry
 carry-parts ws cap [] fs n p h = (h, tt)
 carry-parts ws cap (q ∷ qs) fs n p h =
-    go (leb cap n) (ltb (n + suc (length qs)) cap) (apart (inside p q)) refl (carry-parts ws cap qs (fs .1))
-  where
-    go : (full few none : Bool) → apart (inside p q) ≡ none → ((m : ℕ) (c : Cover) → Parts ws c → Every (λ r. Parts ws (r .cover)) (carry cap qs m c))
-        → Every (λ r. Parts ws (r .cover)) (cut full few none (carry cap qs) n p (inside p q))
-    go true few none e ih = (h, tt)
-    go false true none e ih = (h, tt)
-    go false false true e ih = ih n p h
-    go false false false e ih =
-        every-append (λ r. Parts ws (r .cover)) (carry cap qs (suc n) (inside p q)) (each (carry cap qs n) (outsides p (inside p q)))
-        (ih (suc n) (inside p q) (inside-parts ws p q h (fs .0) e))
-        (every-each (Parts ws) (λ r. Parts ws (r .cover)) (carry cap qs n) (λ c g. ih n c g) (outsides p (inside p q))
-        (outsides-parts ws p (inside p q) h (inside-parts ws p q h (fs .0) e)))
+    let carried = carry-parts ws cap qs (fs .1) in
+    search (cut-parts, carried, inside-parts, fs .0)

@@ -11,15 +11,15 @@ use Rattle.rules.specs.Files.{Case}
 use Rattle.rules.specs.Turns.{Place, same, Mark, capacity, asks, entered, arriving, Served, served, Row, quiet}
 use Rattle.rules.specs.Turns.Place.{gone}
 use Rattle.rules.specs.Single.{trainsOn, enters, serveTrain}
-use Rattle.rules.specs.Joint.{covers, whole, Entry, entry, Piece, piece, carry, meets, pieces, serveEntry}
+use Rattle.rules.specs.Joint.{Cover, covers, whole, Entry, entry, Piece, piece, carry, meets, pieces, serveEntry}
 use Rattle.sound.specs.Facts.{Sound}
-use Rattle.simulation.specs.Lists.{Every, every-append, every-left, every-right, every-map, every-each, every-one, every-keep, every-all, every-more}
+use Rattle.simulation.specs.Lists.{Every, every-append, every-left, every-right, every-map, every-each, every-keep, every-all, every-more}
 use Rattle.simulation.specs.Covers.{Fits, covers-length}
 use Rattle.simulation.specs.Cutting.{verdicts, hits}
 use Rattle.simulation.specs.Parts.{Parts, parts-length, carry-parts}
 use Rattle.simulation.specs.Keeping.{servedRows, servedList}
 use Rattle.simulation.specs.Orderly.{Orderly}
-use Rattle.simulation.specs.View.{Choice, view, viewRows, viewServed, view-append, view-cons, viewRows-append, viewRows-quiet, held-view, entering-view, meets-hits, pieces-verdict, others-on}
+use Rattle.simulation.specs.View.{Choice, view, viewRows, viewServed, meets-covers, view-append, view-cons, viewRows-append, viewRows-quiet, held-view, entering-view, meets-hits, pieces-verdict, others-on}
 
 -- ---- proper covers
 
@@ -27,43 +27,48 @@ use Rattle.simulation.specs.View.{Choice, view, viewRows, viewServed, vi
 abbrev pub Proper : Case → Entry → Type 0
 Proper C r = Parts (whole C) (r .cover)
 
+-- what holds of each piece's cover holds of the cover of an entry with the mark m for each of some pieces
+module _ (P : Cover → Type 0) where
+  kept-covers : (m : Mark) (test : Piece → Bool) (ps : List Piece) → Every (λ q. P (q .cover)) ps
+      → Every (λ a. P (a .cover)) (map (λ q. entry m (q .cover)) (keep test ps))
+  kept-covers m test ps h =
+      every-map (λ q. P (q .cover)) (λ a. P (a .cover)) (λ q. entry m (q .cover)) (λ q f. f) (keep test ps) (every-keep (λ q. P (q .cover)) test ps h)
+
+  -- and of entries with some marks for each
+  new-covers : (new : List Mark) (test : Piece → Bool) (ps : List Piece) → Every (λ q. P (q .cover)) ps
+      → Every (λ a. P (a .cover)) (each (λ q. map (λ m. entry m (q .cover)) new) (keep test ps))
+  new-covers new test ps h =
+      every-each (λ q. P (q .cover)) (λ a. P (a .cover)) (λ q. map (λ m. entry m (q .cover)) new)
+      (λ q f. every-map (λ m. Unit) (λ a. P (a .cover)) (λ m. entry m (q .cover)) (λ m u. f) new (every-all (λ m. Unit) (λ m. tt) new))
+      (keep test ps) (every-keep (λ q. P (q .cover)) test ps h)
+
 module _ (C : Case) (t : ℕ) (e : Place) where
   pieces-proper : (rs : List Entry) (r : Entry) → Every (Proper C) rs → Proper C r → Every (λ q. Parts (whole C) (q .cover)) (pieces C e rs r)
-  unfolding pieces meets
+  unfolding pieces
   pieces-proper rs r hs h = go (same e gone)
     where
       go : (b : Bool) → Every (λ q. Parts (whole C) (q .cover)) (cond b (piece (r .cover) false ∷ []) (carry (capacity C e) (meets e (r .mark .train) rs) 0 (r .cover)))
       go true = (h, tt)
       go false =
-          carry-parts (whole C) (capacity C e) (meets e (r .mark .train) rs)
-          (every-each (Proper C) (Parts (whole C)) (λ a. one (not (eqb (a .mark .train) (r .mark .train)) && same (a .mark .place) e) (a .cover))
-          (λ a f. every-one (Parts (whole C)) (not (eqb (a .mark .train) (r .mark .train)) && same (a .mark .place) e) (a .cover) (λ q. f)) rs hs)
-          0 (r .cover) h
+          carry-parts (whole C) (capacity C e) (meets e (r .mark .train) rs) (meets-covers (Parts (whole C)) e (r .mark .train) rs hs) 0 (r .cover) h
 
-  entering-proper : (new : List Mark) (ps : List Piece) → Every (λ q. Parts (whole C) (q .cover)) ps
-      → Every (Proper C) (each (λ q. map (λ m. entry m (q .cover)) new) (keep (λ q. not (q .held)) ps))
-  entering-proper new ps h =
-      every-each (λ q. Parts (whole C) (q .cover)) (Proper C) (λ q. map (λ m. entry m (q .cover)) new)
-      (λ q f. every-map (λ m. Unit) (Proper C) (λ m. entry m (q .cover)) (λ m u. f) new (every-all (λ m. Unit) (λ m. tt) new))
-      (keep (λ q. not (q .held)) ps) (every-keep (λ q. Parts (whole C) (q .cover)) (λ q. not (q .held)) ps h)
+  -- what comes of an asker has the covers of its pieces, and no other: what holds of each piece's cover holds of each of these
+  serve-covers : (P : Cover → Type 0) (rs : List Entry) (r : Entry) → Every (λ q. P (q .cover)) (pieces C e rs r)
+      → Every (λ a. P (a .cover)) (serveEntry C t e rs r .rows) × Every (λ a. P (a .cover)) (serveEntry C t e rs r .added) × Every (λ a. P (a .cover)) (serveEntry C t e rs r .arrived)
+  unfolding serveEntry
+  serve-covers P rs r h = search (kept-covers P, new-covers P)
 
   -- serving keeps covers proper, in the list and among the arrivals
   pub serve-proper : (b : List Entry) (r : Entry) (c v : List Entry) → Every (Proper C) (b ++ (r ∷ c)) → Every (Proper C) v
       → Every (Proper C) (servedList (serveEntry C t e (b ++ (r ∷ c)) r) b c) × Every (Proper C) (v ++ serveEntry C t e (b ++ (r ∷ c)) r .arrived)
-  unfolding serveEntry
   serve-proper b r c v h k =
-      let ps = pieces C e (b ++ (r ∷ c)) r in
-      let hs = pieces-proper (b ++ (r ∷ c)) r h (every-right (Proper C) b (r ∷ c) h .0) in
-      let rows = map (λ q. entry (r .mark) (q .cover)) (keep (λ q. q .held) ps) in (
-        every-append (Proper C) (b ++ rows ++ c) (each (λ q. map (λ m. entry m (q .cover)) (entered C t e (r .mark))) (keep (λ q. not (q .held)) ps))
-            (every-append (Proper C) (b ++ rows) c
-            (every-append (Proper C) b rows (every-left (Proper C) b (r ∷ c) h)
-            (every-map (λ q. Parts (whole C) (q .cover)) (Proper C) (λ q. entry (r .mark) (q .cover)) (λ q f. f) (keep (λ q. q .held) ps)
-            (every-keep (λ q. Parts (whole C) (q .cover)) (λ q. q .held) ps hs)))
-            (every-right (Proper C) b (r ∷ c) h .1))
-            (entering-proper (entered C t e (r .mark)) ps hs),
-        every-append (Proper C) v (each (λ q. map (λ m. entry m (q .cover)) (arriving C t e (r .mark))) (keep (λ q. not (q .held)) ps)) k
-            (entering-proper (arriving C t e (r .mark)) ps hs),
+      let s = serveEntry C t e (b ++ (r ∷ c)) r in
+      let here = every-right (Proper C) b (r ∷ c) h in
+      let came = serve-covers (Parts (whole C)) (b ++ (r ∷ c)) r (pieces-proper (b ++ (r ∷ c)) r h (here .0)) in (
+        every-append (Proper C) (b ++ s .rows ++ c) (s .added)
+            (every-append (Proper C) (b ++ s .rows) c (every-append (Proper C) b (s .rows) (every-left (Proper C) b (r ∷ c) h) (came .0)) (here .1))
+            (came .1),
+        every-append (Proper C) v (s .arrived) k (came .2),
       )
 
 -- ---- an asker served, as a choice sees it

@@ -29,15 +29,22 @@ sum-around f b m c = omega (arith, sum-append f b (m ∷ c))
 sum-entered : (f : Mark → ℕ) (b c new : List Mark) → sum f (b ++ [] ++ c ++ new) ≡ sum f b + sum f c + sum f new
 sum-entered f b c new = omega (arith, sum-append f (b ++ [] ++ c) new, sum-append f (b ++ []) c, sum-append f b [])
 
--- a mark that enters counts as its standing mark, and at the most its block
-entered-le : (f : Mark → ℕ) (C : Case) (t : ℕ) (e : Place) (m : Mark)
-    → sum f (entered C t e m) ≤ f (stands (m .train) e (dueAgain C t (m .train) e)) + f (block (m .train) (m .place) (t + C .head .safety))
-unfolding entered leaving
-entered-le f C t e m = omega (arith, sum-one-le f (not (same (m .place) outside)) (block (m .train) (m .place) (t + C .head .safety)))
+-- what a mark leaves counts at the most as a block on its place
+leaving-le : (f : Mark → ℕ) (C : Case) (t : ℕ) (m : Mark) → sum f (leaving C t m) ≤ f (block (m .train) (m .place) (t + C .head .safety))
+unfolding leaving
+leaving-le f C t m = sum-one-le f (not (same (m .place) outside)) (block (m .train) (m .place) (t + C .head .safety))
 
-entered-ge : (f : Mark → ℕ) (C : Case) (t : ℕ) (e : Place) (m : Mark) → f (stands (m .train) e (dueAgain C t (m .train) e)) ≤ sum f (entered C t e m)
+-- a mark and, where c holds, a block on some place: a test that no block of the train passes counts the mark alone
+block-passes-not : (test : Mark → Bool) (k : ℕ) → ((p : Place) (n : ℕ) → test (block k p n) ≡ false) → (m : Mark) (c : Bool) (p : Place) (n : ℕ)
+    → count test (m ∷ one c (block k p n)) ≡ tick (test m)
+block-passes-not test k h m true p n = omega (arith, ap tick (h p n))
+block-passes-not test k h m false p n = omega arith
+
+-- of what comes of a mark that enters, the standing mark alone stands
+entered-stands : (test : Mark → Bool) (C : Case) (t : ℕ) (e : Place) (m : Mark) → ((p : Place) (n : ℕ) → test (block (m .train) p n) ≡ false)
+    → count test (entered C t e m) ≡ tick (test (stands (m .train) e (dueAgain C t (m .train) e)))
 unfolding entered leaving
-entered-ge f C t e m = omega arith
+entered-stands test C t e m h = search (block-passes-not test (m .train))
 
 module _ (C : Case) (sound : Sound C) (t : ℕ) (e : Place) (m : Mark) (ask : asks C t e m ≡ true) where
   -- an asker comes nearer to its end
@@ -48,10 +55,9 @@ module _ (C : Case) (sound : Sound C) (t : ℕ) (e : Place) (m : Mark) (ask : as
   stood b = ap (λ (z : Bool). b && not z) (asked C t e m ask .stood) ∙ and-true b
 
   entered-standing : (j : ℕ) → count (isStanding j) (entered C t e m) ≡ tick (isStanding j m)
-  entered-standing j = omega (arith, entered-le f C t e m, entered-ge f C t e m, ap tick (and-false (eqb (m .train) j)), ap tick (and-true (eqb (m .train) j)), ap tick (stood (eqb (m .train) j)))
-    where
-      f : Mark → ℕ
-      f a = tick (isStanding j a)
+  entered-standing j =
+      entered-stands (isStanding j) C t e m (λ p n. and-false (eqb (m .train) j))
+      ∙ ap tick (and-true (eqb (m .train) j) ∙ sym (stood (eqb (m .train) j)))
 
   -- what is ahead from e was ahead from where the asker stood, and so was e
   ahead-less : (j : ℕ) (p : Place) (a : Bool) → eqb (m .train) j ≡ a
@@ -69,11 +75,13 @@ module _ (C : Case) (sound : Sound C) (t : ℕ) (e : Place) (m : Mark) (ask : as
       go false true false f g h l = absurd (omega (arith, ltb-false (toGo C j p) (toGo C j (m .place)) h, ltb-true (toGo C j p) (toGo C j e) g))
       go false false c f g h l = omega arith
 
+  -- the block is where the asker stood, and the standing mark where it had yet to come to
   entered-reach : (j : ℕ) (p : Place) → sum (reach C j p) (entered C t e m) ≤ reach C j p m
+  unfolding entered
   entered-reach j p =
       omega (
         arith,
-        entered-le (reach C j p) C t e m,
+        leaving-le (reach C j p) C t m,
         ahead-less j p (eqb (m .train) j) refl,
         ap (λ (z : Bool). tick (z && ltb (toGo C j p) (toGo C j (m .place)))) (and-false (eqb (m .train) j)),
       )
@@ -82,9 +90,8 @@ module _ (C : Case) (sound : Sound C) (t : ℕ) (e : Place) (m : Mark) (ask : as
   entered-before j p =
       omega (
         arith,
-        entered-le (λ a. tick (isBefore C j p a)) C t e m,
+        entered-stands (isBefore C j p) C t e m (λ q n. ap (λ (z : Bool). z && ltb (toGo C j p) (toGo C j q)) (and-false (eqb (m .train) j))),
         ahead-less j p (eqb (m .train) j) refl,
-        ap (λ (z : Bool). tick (z && ltb (toGo C j p) (toGo C j (m .place)))) (and-false (eqb (m .train) j)),
       )
 
   -- an asker for e is not on e, nor does it block e
@@ -107,7 +114,7 @@ module _ (C : Case) (sound : Sound C) (t : ℕ) (e : Place) (m : Mark) (ask : as
 
   entered-known : (P : Mark → Type 0) → ((p : Place) (q : Bool) (n : ℕ) → P (record { train = m .train; place = p; blocks = q; minute = n })) → Every P (entered C t e m)
   unfolding entered leaving
-  entered-known P h = (h e false (dueAgain C t (m .train) e), every-one P (not (same (m .place) outside)) (block (m .train) (m .place) (t + C .head .safety)) (λ q. h (m .place) true (t + C .head .safety)))
+  entered-known P h = search (every-one P)
 
   -- the asker's arrival is at the last station
   arriving-le : (j : ℕ) → count (λ a. eqb (a .train) j) (arriving C t e m) ≤ tick (eqb (m .train) j && same e (lastStation C j))
@@ -129,17 +136,17 @@ module _ (C : Case) (sound : Sound C) (t : ℕ) (e : Place) (m : Mark) (ask : as
     after-le f h = omega (arith, sum-around f b m c, sum-entered f b c (entered C t e m))
 
     after-within : enters C e (b ++ (m ∷ c)) ≡ true → (p : Place) → same p outside ≡ false → same p gone ≡ false → count (isOn p) after ≤ capacity C p
-    unfolding enters
+    unfolding enters entered
     after-within h p out way = go (same e p) refl
       where
         go : (a : Bool) → same e p ≡ a → count (isOn p) after ≤ capacity C p
-        go false q = le-trans (after-le (λ a. tick (isOn p a)) (omega (arith, entered-le (λ a. tick (isOn p a)) C t e m, ap tick q))) (o .within p out way)
+        go false q = le-trans (after-le (λ a. tick (isOn p a)) (omega (arith, leaving-le (λ a. tick (isOn p a)) C t m, ap tick q))) (o .within p out way)
         go true q =
             omega (
               arith,
               sum-around (λ a. tick (isOn p a)) b m c,
               sum-entered (λ a. tick (isOn p a)) b c (entered C t e m),
-              entered-le (λ a. tick (isOn p a)) C t e m,
+              leaving-le (λ a. tick (isOn p a)) C t m,
               tick-le (same e p),
               room,
             )

@@ -38,6 +38,13 @@ viewRows x rs = each (λ r. one (covers (r .item .cover) x) (row (r .item .mark)
 abbrev pub viewServed : List ℕ → Served Entry → Served Mark
 viewServed x s = served (view x (s .rows)) (view x (s .added)) (view x (s .arrived))
 
+-- ---- the covers that are met
+
+-- what holds of each entry's cover holds of each that an asker meets
+pub meets-covers : (P : Cover → Type 0) (e : Place) (k : ℕ) (rs : List Entry) → Every (λ r. P (r .cover)) rs → Every P (meets e k rs)
+unfolding meets
+meets-covers P e k rs h = search (every-each, every-one)
+
 -- ---- views of lists and of rows
 
 -- two tests of one item may change places
@@ -197,12 +204,6 @@ module _ (x : List ℕ) where
       go false true = refl
       go false false = refl
 
-  meets-fit : (e : Place) (k : ℕ) (rs : List Entry) → Every (λ r. Fits x (r .cover)) rs → Every (Fits x) (meets e k rs)
-  unfolding meets
-  meets-fit e k rs h =
-      every-each (λ r. Fits x (r .cover)) (Fits x) (λ r. one (not (eqb (r .mark .train) k) && same (r .mark .place) e) (r .cover))
-      (λ r f. every-one (Fits x) (not (eqb (r .mark .train) k) && same (r .mark .place) e) (r .cover) (λ q. f)) rs h
-
   pub pieces-verdict : (C : Case) (e : Place) (rs : List Entry) (r : Entry) → Every (λ a. Fits x (a .cover)) rs → Fits x (r .cover)
       → verdicts x (pieces C e rs r) ≡ one (covers (r .cover) x) (not (same e gone) && leb (capacity C e) (hits x (meets e (r .mark .train) rs)))
   unfolding pieces verdicts
@@ -212,7 +213,7 @@ module _ (x : List ℕ) where
           ≡ one (covers (r .cover) x) (not b && leb (capacity C e) (hits x (meets e (r .mark .train) rs)))
       go true = append-nil (one (covers (r .cover) x) false)
       go false =
-          carry-law x (capacity C e) (meets e (r .mark .train) rs) (meets-fit e (r .mark .train) rs fs) 0 (r .cover) f
+          carry-law x (capacity C e) (meets e (r .mark .train) rs) (meets-covers (Fits x) e (r .mark .train) rs fs) 0 (r .cover) f
           ∙ ap (λ (z : ℕ). one (covers (r .cover) x) (leb (capacity C e) z)) (omega arith)
 
   -- the order that the view has makes the verdict the single run's

@@ -1,25 +1,25 @@
 -- Cutting keeps parts: every cover of the joint run's lists and arrivals has one set per train, each a part of the train's whole set with no delay twice.
 -- The common part and what a set loses are kept from the set, and a piece is made of such sets. Assumes nothing.
 use mathlib.Core.Path.{_≡_, refl, sym, ap, _∙_, subst}
-use mathlib.Core.Bool.{Bool, true, false, not, _&&_, _||_, cond, false≢true}
+use mathlib.Core.Bool.{Bool, true, false, _&&_, _||_, cond, false≢true}
 use mathlib.Core.List.{List, [], _∷_, _++_, map}
 use Prim.Native.Nat.{ℕ, zero, suc, _+_, _≤_, _<_}
 use native.Mathlib.Omega.{arith}
 use lib.ListN.{length, getD, set, List·getD-map}
-use lib.Dec.{eqb, ltb, leb}
+use lib.Dec.{eqb}
 use borrow.Author.Tests.{eqb-true}
-use Rattle.rules.specs.Lists.{one, keep, span, below, has}
+use Rattle.rules.specs.Lists.{one, each, keep, span, below, has}
 use Rattle.rules.specs.Files.{Case, Pair}
-use Rattle.rules.specs.Turns.{Place, same, Mark, entered, arriving, capacity}
+use Rattle.rules.specs.Turns.{Place, same, Mark, capacity}
 use Rattle.rules.specs.Turns.Place.{gone}
-use Rattle.rules.specs.Joint.{Cover, common, without, isEmpty, inside, apart, outsides, whole, Entry, entry, firstList, Piece, piece, cut, carry, meets, pieces, serveEntry, jointRules, joint}
+use Rattle.rules.specs.Joint.{Cover, common, without, inside, outsides, whole, Entry, entry, firstList, Piece, piece, cut, carry, meets, pieces, serveEntry, jointRules, joint}
 use Rattle.weights.specs.Tests.{and-true-first, has-keep, has-below}
 use Rattle.weights.specs.All.{All, all-append, all-one, all-map, all-each, all-keep, all-span}
 use Rattle.weights.specs.All.All.{none, more}
 use Rattle.weights.specs.Part.{Distinct, Within, Parts, Part, part-whole}
 use Rattle.weights.specs.Entries.{Covered}
 use Rattle.weights.specs.Trace.{runLists}
-use Rattle.weights.specs.Kept.{Keeps, KeptAll, run-kept}
+use Rattle.weights.specs.Kept.{ServedAll, Keeps, KeptAll, run-kept}
 
 -- ---- sets
 
@@ -54,31 +54,49 @@ parts-outsides [] (s ∷ p) c h g = absurd h
 parts-outsides (v ∷ w) [] c h g = none
 parts-outsides (v ∷ w) (s ∷ p) [] h g = none
 parts-outsides (v ∷ w) (s ∷ p) (u ∷ c) h g =
-    all-append (all-one (not (isEmpty (without s u))) (without s u ∷ p) (within-keep (λ d. not (has u d)) v s (h .0), h .1))
-    (all-map (λ q. u ∷ q) (λ q r. (g .0, r)) (parts-outsides w p c (h .1) (g .1)))
+    let later = all-map {q = Parts (v ∷ w)} (λ q. u ∷ q) (λ q r. (g .0, r)) (parts-outsides w p c (h .1) (g .1)) in
+    search (all-append, all-one, within-keep, later)
+
+-- one turn of a piece, where what is carried on stays a part, whatever its count
+parts-cut : (w : Cover) (full few past : Bool) (on : ℕ → Cover → List Piece) (n : ℕ) (p c : Cover)
+    → ((m : ℕ) (q : Cover) → Parts w q → All (λ (i : Piece). Parts w (i .cover)) (on m q)) → Parts w p → Parts w c
+    → All (λ (i : Piece). Parts w (i .cover)) (cut full few past on n p c)
+parts-cut w true few past on n p c carried h g = more h none
+parts-cut w false true past on n p c carried h g = more h none
+parts-cut w false false true on n p c carried h g = carried _ p h
+parts-cut w false false false on n p c carried h g =
+    let outer = parts-outsides w p c h g in
+    search (all-append, all-each, carried)
 
 parts-carry : (w : Cover) (cap : ℕ) (qs : List Cover) → All (Parts w) qs → (n : ℕ) (p : Cover) → Parts w p
     → All (λ (i : Piece). Parts w (i .cover)) (carry cap qs n p)
 unfolding carry
 parts-carry w cap [] none n p h = more h none
 parts-carry w cap (q ∷ qs) (more g r) n p h =
-    go (leb cap n) (ltb (n + suc (length qs)) cap) (apart (inside p q)) (parts-carry w cap qs r)
-  where
-    go : (a b c : Bool) → ((n : ℕ) (p : Cover) → Parts w p → All (λ (i : Piece). Parts w (i .cover)) (carry cap qs n p))
-        → All (λ (i : Piece). Parts w (i .cover)) (cut a b c (carry cap qs) n p (inside p q))
-    go true b c ih = more h none
-    go false true c ih = more h none
-    go false false true ih = ih n p h
-    go false false false ih =
-        let i : Parts w (inside p q) = parts-inside w p q h g in
-        all-append (ih (suc n) (inside p q) i) (all-each (carry cap qs n) (ih n) (parts-outsides w p (inside p q) h i))
+    let carried = parts-carry w cap qs r in
+    search (parts-cut, carried, parts-inside)
 
 -- ---- entries
+
+-- what holds of each piece's cover holds of the cover of an entry with the mark m for each of some pieces
+module _ (P : Cover → Type 0) where
+  kept-covers : (m : Mark) (test : Piece → Bool) {ps : List Piece} → All (λ (q : Piece). P (q .cover)) ps
+      → All (λ (a : Entry). P (a .cover)) (map (λ q. entry m (q .cover)) (keep test ps))
+  kept-covers m test h = all-map (λ q. entry m (q .cover)) (λ q i. i) (all-keep test h)
+
+  -- and of entries with some marks for each
+  new-covers : (new : List Mark) (test : Piece → Bool) {ps : List Piece} → All (λ (q : Piece). P (q .cover)) ps
+      → All (λ (a : Entry). P (a .cover)) (each (λ q. map (λ m. entry m (q .cover)) new) (keep test ps))
+  new-covers new test h = all-each _ (λ q i. marks new q i) (all-keep test h)
+    where
+      marks : (ms : List Mark) (q : Piece) → P (q .cover) → All (λ (a : Entry). P (a .cover)) (map (λ m. entry m (q .cover)) ms)
+      marks [] q i = none
+      marks (m ∷ ms) q i = more i (marks ms q i)
 
 module _ (C : Case) where
   meets-part : (e : Place) (k : ℕ) {rs : List Entry} → Covered C rs → All (Part C) (meets e k rs)
   unfolding meets
-  meets-part e k h = all-each _ (λ r q. all-one (not (eqb (r .mark .train) k) && same (r .mark .place) e) (r .cover) q) h
+  meets-part e k h = search (all-each, all-one)
 
   pieces-part : (e : Place) (rs : List Entry) (r : Entry) → Covered C rs → Part C (r .cover) → All (λ (i : Piece). Part C (i .cover)) (pieces C e rs r)
   unfolding pieces Part
@@ -88,20 +106,16 @@ module _ (C : Case) where
       go true = more g none
       go false = parts-carry (whole C) (capacity C e) (meets e (r .mark .train) rs) (meets-part e (r .mark .train) h) 0 (r .cover) g
 
+  -- what comes of an asker has the covers of its pieces, and no other: what holds of each piece's cover holds of each of these
+  serveEntry-covers : (P : Cover → Type 0) (t : ℕ) (e : Place) (rs : List Entry) (r : Entry) → All (λ (q : Piece). P (q .cover)) (pieces C e rs r)
+      → ServedAll (λ (a : Entry). P (a .cover)) (serveEntry C t e rs r)
+  unfolding serveEntry
+  serveEntry-covers P t e rs r h = search (kept-covers P, new-covers P)
+
   -- serving an entry keeps its covers parts
   serveEntry-part : Keeps (jointRules C) (λ r. Part C (r .cover))
-  unfolding jointRules serveEntry
-  serveEntry-part t e rs r h g =
-      let ps = pieces-part e rs r h g in
-      record {
-        rows = all-map (λ q. entry (r .mark) (q .cover)) (λ q i. i) (all-keep (λ q. q .held) ps);
-        added = all-each _ (λ q i. marks (entered C t e (r .mark)) q i) (all-keep (λ q. not (q .held)) ps);
-        arrived = all-each _ (λ q i. marks (arriving C t e (r .mark)) q i) (all-keep (λ q. not (q .held)) ps);
-      }
-    where
-      marks : (ms : List Mark) (q : Piece) → Part C (q .cover) → All (λ r. Part C (r .cover)) (map (λ m. entry m (q .cover)) ms)
-      marks [] q i = none
-      marks (m ∷ ms) q i = more i (marks ms q i)
+  unfolding jointRules
+  serveEntry-part t e rs r h g = serveEntry-covers (Part C) t e rs r (pieces-part e rs r h g)
 
 -- ---- the joint run
 

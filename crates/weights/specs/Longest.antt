@@ -6,14 +6,14 @@ use mathlib.Core.List.{List, [], _∷_, _++_, map}
 use Prim.Native.Nat.{ℕ, zero, suc, _+_, _≤_}
 use native.Mathlib.Omega.{arith}
 use lib.ListN.{length, length-append}
-use lib.Dec.{ltb, leb}
+use lib.Dec.{ltb}
 use borrow.Author.Tests.{ltb-true, lt-ltb}
 use Rattle.rules.specs.Lists.{one, each, keep, any, below, fold}
 use Rattle.rules.specs.Files.{Case}
-use Rattle.rules.specs.Turns.{Place, same, State, state, Row, items, Turn, Rules, capacity, ended, asks, elements, entered, next, serveOne, serveAll, visit, minute, minutes, runFrom}
+use Rattle.rules.specs.Turns.{Place, same, Mark, State, state, Row, items, Turn, Rules, capacity, ended, asks, elements, entered, next, serveOne, serveAll, visit, minute, minutes, runFrom}
 use Rattle.rules.specs.Turns.Place.{gone}
 use Rattle.rules.specs.Turns.Turn.{nobody, somebody}
-use Rattle.rules.specs.Joint.{Cover, Piece, piece, cut, carry, inside, apart, outsides, meets, pieces, Entry, entry, serveEntry, jointRules}
+use Rattle.rules.specs.Joint.{Cover, Piece, piece, cut, carry, meets, pieces, Entry, serveEntry, jointRules}
 use Rattle.weights.specs.Tests.{or-true-second, or-brings, or-middle, any-append, any-below, length-keep}
 use Rattle.weights.specs.Trace.{rowsAfter, listsOne, listsAll, visitLists, visitsLists, minuteLists, minutesLists, runLists, items-rows, Splits, next-splits, items-after}
 
@@ -145,18 +145,27 @@ module _ {A : Type 0} (room : ℕ) where
 
 -- ---- the joint run
 
+some-map : {A B : Type 0} (f : A → B) (l : List A) → 1 ≤ length l → 1 ≤ length (map f l)
+some-map f [] h = h
+some-map f (a ∷ l) h = omega arith
+
+some-append : {A : Type 0} (s t : List A) → 1 ≤ length s → 1 ≤ length (s ++ t)
+some-append s t h = omega (arith, length-append s t)
+
+-- one turn of a piece comes to at least one piece, where each that is carried on does, whatever its count
+cut-some : (full few none : Bool) (on : ℕ → Cover → List Piece) (n : ℕ) (p c : Cover) → ((m : ℕ) (q : Cover) → 1 ≤ length (on m q)) → 1 ≤ length (cut full few none on n p c)
+cut-some true few none on n p c carried = omega arith
+cut-some false true none on n p c carried = omega arith
+cut-some false false true on n p c carried = carried _ p
+cut-some false false false on n p c carried = search (some-append, carried)
+
 -- a carried cover comes to at least one piece
 carry-some : (cap : ℕ) (qs : List Cover) (n : ℕ) (p : Cover) → 1 ≤ length (carry cap qs n p)
 unfolding carry
 carry-some cap [] n p = omega arith
-carry-some cap (q ∷ qs) n p = go (leb cap n) (ltb (n + suc (length qs)) cap) (apart (inside p q)) (carry-some cap qs)
-  where
-    go : (a b c : Bool) → ((n : ℕ) (p : Cover) → 1 ≤ length (carry cap qs n p)) → 1 ≤ length (cut a b c (carry cap qs) n p (inside p q))
-    go true b c ih = omega arith
-    go false true c ih = omega arith
-    go false false true ih = ih n p
-    go false false false ih =
-        omega (arith, ih (suc n) (inside p q), length-append (carry cap qs (suc n) (inside p q)) (each (carry cap qs n) (outsides p (inside p q))))
+carry-some cap (q ∷ qs) n p =
+    let carried = carry-some cap qs in
+    search (cut-some, carried)
 
 pieces-some : (C : Case) (e : Place) (rs : List Entry) (r : Entry) → 1 ≤ length (pieces C e rs r)
 unfolding pieces
@@ -166,23 +175,23 @@ pieces-some C e rs r = go (same e gone)
     go true = omega arith
     go false = carry-some (capacity C e) (meets e (r .mark .train) rs) 0 (r .cover)
 
+-- held pieces leave an entry, and the others add at least one
+pieces-grow : (held : Piece → Entry) (new : Piece → List Entry) → ((q : Piece) → 1 ≤ length (new q)) → (ps : List Piece) → 1 ≤ length ps
+    → 1 ≤ length (map held (keep (λ q. q .held) ps)) + length (each new (keep (λ q. not (q .held)) ps))
+pieces-grow held new some [] h = absurd (omega arith)
+pieces-grow held new some (q ∷ ps) h = go (q .held)
+  where
+    go : (b : Bool) → 1 ≤ length (map held (one b q ++ keep (λ q. q .held) ps)) + length (each new (one (not b) q ++ keep (λ q. not (q .held)) ps))
+    go true = omega arith
+    go false = omega (arith, some q, length-append (new q) (each new (keep (λ q. not (q .held)) ps)))
+
+entered-some : (C : Case) (t : ℕ) (e : Place) (m : Mark) → 1 ≤ length (entered C t e m)
+unfolding entered
+entered-some C t e m = omega arith
+
 -- each piece leaves or adds at least one entry
 pub serveEntry-grows : (C : Case) → Grows (jointRules C)
-unfolding jointRules serveEntry entered
-serveEntry-grows C t e rs r = go (pieces C e rs r) (pieces-some C e rs r)
-  where
-    held : List Piece → List Entry
-    held ps = map (λ q. entry (r .mark) (q .cover)) (keep (λ q. q .held) ps)
-
-    added : List Piece → List Entry
-    added ps = each (λ q. map (λ m. entry m (q .cover)) (entered C t e (r .mark))) (keep (λ q. not (q .held)) ps)
-
-    go : (ps : List Piece) → 1 ≤ length ps → 1 ≤ length (held ps) + length (added ps)
-    go [] h = absurd (omega arith)
-    go (q ∷ ps) h = at-first (q .held)
-      where
-        at-first : (b : Bool)
-            → 1 ≤ length (map (λ q. entry (r .mark) (q .cover)) (one b q ++ keep (λ q. q .held) ps))
-            + length (each (λ q. map (λ m. entry m (q .cover)) (entered C t e (r .mark))) (one (not b) q ++ keep (λ q. not (q .held)) ps))
-        at-first true = omega arith
-        at-first false = omega arith
+unfolding jointRules serveEntry
+serveEntry-grows C t e rs r =
+    let some = pieces-some C e rs r in
+    search (pieces-grow, some-map, entered-some)

@@ -1,0 +1,106 @@
+// Reads files from standard input and prints what a field viewer gives of each, a line a field: its place, tag and length; then `ended`
+// or `refused 1` with the place at which the viewer stays. A file comes as its length (2 bytes) and its bytes.
+use fields::Field;
+use fields::refusals;
+use libc::STDIN_FILENO;
+use libc::STDOUT_FILENO;
+use viewer::Viewing;
+ghost use Rattle.io.specs.Counts.{Counts};
+
+fn space() -> bool {
+    io::write_all(STDOUT_FILENO, b" ")
+}
+
+fn line_end() -> bool {
+    io::write_all(STDOUT_FILENO, b"\n")
+}
+
+fn print_field(place: usize, tag: usize, size: usize) -> bool {
+    io::print_decimal(STDOUT_FILENO, place as u64);
+    space();
+    io::print_decimal(STDOUT_FILENO, tag as u64);
+    space();
+    io::print_decimal(STDOUT_FILENO, size as u64);
+    line_end()
+}
+
+fn print_ended(place: usize) -> bool {
+    io::write_all(STDOUT_FILENO, b"ended ");
+    io::print_decimal(STDOUT_FILENO, place as u64);
+    line_end()
+}
+
+fn print_refusal(place: usize) -> bool {
+    io::write_all(STDOUT_FILENO, b"refused ");
+    io::print_decimal(STDOUT_FILENO, refusals::OVERRUN as u64);
+    space();
+    io::print_decimal(STDOUT_FILENO, place as u64);
+    line_end()
+}
+
+// Prints what was given, and answers whether it was a field.
+fn print_viewing(v: Viewing) -> bool {
+    let place = v.place;
+    let field = v.field;
+    match field {
+        Field::Whole { tag, size, end: _ } => {
+            print_field(place, tag, size);
+            true
+        }
+        Field::Ended => {
+            print_ended(place);
+            false
+        }
+        Field::Overrun => {
+            print_refusal(place);
+            false
+        }
+    }
+}
+
+// A file has fewer fields than bytes, so the viewer stays before the turns are over.
+fn print_file(file: &[u8]) {
+    for n in 0..=file.len() {
+        if !print_viewing(viewer::nth(file, n)) {
+            return;
+        }
+    }
+}
+
+// As many of the buffer's bytes as n says, or all.
+fn within(n: usize, buf: &[u8]) -> usize
+    ensures { λ r. ⌜ Counts r (now (buf .entry)) ⌝ }
+{
+    if n < buf.len() {
+        return n;
+    }
+    buf.len()
+}
+
+// The next n bytes of the input, as many as the buffer holds.
+fn next_bytes(n: usize, buf: &mut [u8]) -> usize {
+    let k = within(n, buf);
+    io::read_full(STDIN_FILENO, &mut buf[..k])
+}
+
+// Views the next file, and answers whether there was one.
+fn view_file() -> bool {
+    let mut size = [0u8; 2];
+    if io::read_full(STDIN_FILENO, &mut size) < 2 {
+        return false;
+    }
+    let length = fields::word(&size, 0);
+    let mut file = io::buffer();
+    next_bytes(length, &mut file);
+    let n = within(length, &file);
+    print_file(&file[..n]);
+    true
+}
+
+// A proved loop ends: it counts its turns down from a number that no input uses up.
+fn main() {
+    let mut turns = u64::MAX;
+    while turns > 0 && view_file() {
+        turns -= 1;
+    }
+}
