@@ -98,7 +98,19 @@ pub fn element(
     if notes[1024 + e as usize] == 0 {
         return w;
     }
-    let v = trains(rows, w, tmp, tables, met, held, entering, notes, weights, t, e);
+    let v = trains(
+        rows,
+        w,
+        tmp,
+        tables,
+        met,
+        held,
+        entering,
+        notes,
+        weights,
+        t,
+        e,
+    );
     let _x = tidy(notes, e as usize);
     v
 }

@@ -87,8 +87,8 @@ module _ (C : Case) (sound : Sound C) where
     nexts = λ i h. omega (arith, next-at i h, next-fits (i / 128) (i % 128));
     one-place = λ i j h l a b k low same.
         (let train : nextCode C (i / 128) (j % 128) ≡ getD (tables C) (240 + i) 0 = ap (λ (y : ℕ). nextCode C y (j % 128)) k ∙ sym (next-at j l) ∙ sym same in
-         let p : i % 128 ≡ j % 128 = same-before (i / 128) (i % 128) (j % 128) (getD (tables C) (240 + i) 0) a b low (sym (next-at i h)) train in
-         omega arith);
+        let p : i % 128 ≡ j % 128 = same-before (i / 128) (i % 128) (j % 128) (getD (tables C) (240 + i) 0) a b low (sym (next-at i h)) train in
+        omega arith);
     delays = λ k h. (let few : k < length (C .trains) = omega (arith, table-trains C) in
         omega (arith, table-delays C k few (omega (arith, sound .few-trains)), some-delay (getD (C .tables) k []) (sound .hundred k few)));
   }

@@ -50,9 +50,10 @@ lost-bits (suc k) a b h =
     let ih = lost-bits k (a / 2) (b / 2) (omega (arith, pow-succ' 2 k)) in
     let le : bitAnd (a / 2) (b / 2) ≤ a / 2 = and-le-l (a / 2) (b / 2) in
     let d : (a - bitAnd a b) / 2 ≡ a / 2 - bitAnd (a / 2) (b / 2) = omega (arith, and-step a b, le) in
-    let e : (a - bitAnd a b) % 2 ≡ a % 2 - min (a % 2) (b % 2) = omega (arith, and-step a b, le) in
-    (and-step (a - bitAnd a b) a ∙ ap₂ (λ (x y : ℕ). bitAnd x (a / 2) * 2 + min y (a % 2)) d e ∙ ap (λ (x : ℕ). x * 2 + min (a % 2 - min (a % 2) (b % 2)) (a % 2)) (ih .0) ∙ omega (arith, and-step a b, le),
-     and-step (a - bitAnd a b) b ∙ ap₂ (λ (x y : ℕ). bitAnd x (b / 2) * 2 + min y (b % 2)) d e ∙ ap (λ (x : ℕ). x * 2 + min (a % 2 - min (a % 2) (b % 2)) (b % 2)) (ih .1) ∙ omega arith)
+    let e : (a - bitAnd a b) % 2 ≡ a % 2 - min (a % 2) (b % 2) = omega (arith, and-step a b, le) in (
+      and-step (a - bitAnd a b) a ∙ ap₂ (λ (x y : ℕ). bitAnd x (a / 2) * 2 + min y (a % 2)) d e ∙ ap (λ (x : ℕ). x * 2 + min (a % 2 - min (a % 2) (b % 2)) (a % 2)) (ih .0) ∙ omega (arith, and-step a b, le),
+      and-step (a - bitAnd a b) b ∙ ap₂ (λ (x y : ℕ). bitAnd x (b / 2) * 2 + min y (b % 2)) d e ∙ ap (λ (x : ℕ). x * 2 + min (a % 2 - min (a % 2) (b % 2)) (b % 2)) (ih .1) ∙ omega arith,
+    )
 
 -- ---- parts
 

@@ -1,4 +1,3 @@
 pub mod Rows
 pub mod Written
 pub mod Swept
-pub mod Stamps

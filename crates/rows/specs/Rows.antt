@@ -66,9 +66,3 @@ heldRows s cs = map (λ c. row s c) cs
 -- an entering cover has its standing row and, where it left an element, its block
 unfoldable pub enteredRows : ℕ → ℕ → Bool → List ℕ → List Row
 enteredRows s b two cs = each (λ c. row s c ∷ one two (row b c)) cs
-
--- ---- stamps
-
--- a place whose stamp is not v
-unfoldable pub idleOf : List ℕ → ℕ → ℕ → Bool
-idleOf want i v = cond (ltb i (length want)) (not (eqb (getD want i 0) v)) false

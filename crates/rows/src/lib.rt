@@ -1,10 +1,10 @@
-// Rows of two words, a state and a packed cover, in lent slices: reading, sweeping, gathering, copying, appending, and stamps.
+// Rows of two words, a state and a packed cover, in lent slices: reading, sweeping, gathering, copying and appending.
 ghost use mathlib.Core.Path.{_≡_};
 ghost use mathlib.Core.List.{_∷_, []};
 ghost use Prim.Native.Nat.{_+_, _*_, _≤_, _<_};
-ghost use lib.ListN.{length, take, getD, set};
+ghost use lib.ListN.{length, take, getD};
 ghost use lib.Seq.{slice};
-ghost use Rattle.rows.specs.Rows.{words, rowsIn, Put, endedOf, meetsOf, metOf, sweptOf, heldRows, enteredRows, idleOf};
+ghost use Rattle.rows.specs.Rows.{words, rowsIn, Put, endedOf, meetsOf, metOf, sweptOf, heldRows, enteredRows};
 
 // The word at i, or 0 past the end.
 pub fn at(l: &[u64], i: u64) -> u64
@@ -156,26 +156,4 @@ pub fn enter(
         i += 1;
     }
     z
-}
-
-// Whether the stamp at i is another than v.
-pub fn idle(want: &[u64], i: u64, v: u64) -> bool
-    ensures { λ r. ⌜ r ≡ idleOf (now (want .entry)) i v ⌝ }
-{
-    let j = i as usize;
-    if j < want.len() {
-        return want[j] != v;
-    }
-    false
-}
-
-// The stamp at i becomes v, where the list has that place.
-pub fn stamp(want: &mut [u64], i: u64, v: u64) -> usize
-    ensures { λ r. ⌜ now (want .exit) ≡ set (now (want .entry)) i v ⌝ }
-{
-    let j = i as usize;
-    if j < want.len() {
-        want[j] = v;
-    }
-    j
 }

@@ -161,7 +161,18 @@ pub fn pass(
     let m = asking::meet(rows, n, q, met);
     let from = i * 2;
     let _x = rows::copy(rows, from, n * 2, tmp);
-    let z = walk(tmp, n - i, tables, &met[..m], held, entering, rows, from, u, q);
+    let z = walk(
+        tmp,
+        n - i,
+        tables,
+        &met[..m],
+        held,
+        entering,
+        rows,
+        from,
+        u,
+        q,
+    );
     let r = rows::enter(
         entering,
         z.entering,

@@ -142,7 +142,7 @@ module _ (N : List ℕ) (i x : ℕ) (small : i < 1024) (F : Flagged N) where
       go j l false e z =
           let other : j % 128 ≡ i % 128 → ⊥ = eqb-false (j % 128) (i % 128) e in
           let flag : getD M (1024 + j % 128) 0 ≡ getD N (1024 + j % 128) 0 =
-              getD-set-other (set N i x) (1024 + i % 128) (1024 + j % 128) 1 0 (λ q. other (omega arith)) ∙ getD-set-other N i (1024 + j % 128) x 0 (λ q. omega arith) in
+          getD-set-other (set N i x) (1024 + i % 128) (1024 + j % 128) 1 0 (λ q. other (omega arith)) ∙ getD-set-other N i (1024 + j % 128) x 0 (λ q. omega arith) in
           getD-set-other (set N i x) (1024 + i % 128) j 1 0 (λ q. omega arith)
           ∙ getD-set-other N i j x 0 (λ q. other (ap (λ (y : ℕ). y % 128) q))
           ∙ F .flags j l (sym flag ∙ z)

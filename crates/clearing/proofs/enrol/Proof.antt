@@ -42,7 +42,7 @@ loop-less : tie.Need-loop-less Inv-loop μ-loop
 loop-less c = search needs
 
 loop-again : tie.Need-loop-again Inv-loop μ-loop
-loop-again c = 
+loop-again c =
     let s = c .before .before .before .before .before .before .before .before .before .args in
     let l = c .before .before .before .before .before .before .loop in
     (omega arith, rw (c .before .before .show .ensures) (enrols-more (l .i) (s .rows .now) (l .notes) (omega arith) (l .inv .1)), omega (arith, c .before .notes, l .inv .2))

@@ -20,7 +20,7 @@ slice-read-if1 : tie.Need-slice-read-if1
 slice-read-if1 c = search needs
 
 returns : tie.Need-returns
-returns c = 
+returns c =
     let s = c .before .before .before .before .before .before .before .before .before .before .args in
     let p = c .before .before .before .before .before .before .before .before .before .before .pre in
     element-idle (s .tables .now) (s .t) (s .e) (s .w) (s .rows .now) (s .weights .now) (s .notes .now) (p .1 .1 .0) (p .1 .1 .1) (p .1 .1 .2) (p .0 .rows-are) (omega (arith, p .1 .0 .1)) (getD (s .tables .now) 0 0) (c .if1 .taken)

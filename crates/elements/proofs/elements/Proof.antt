@@ -24,13 +24,13 @@ abbrev μ-loop : tie.MeasureT-loop
 μ-loop rows₀ w tmp₀ tables met₀ held₀ entering₀ notes₀ weights₀ t e₀ v₀ rows tmp met held entering notes weights e v = 65 - e
 
 loop-holds : tie.Need-loop-holds Inv-loop μ-loop
-loop-holds c = 
+loop-holds c =
     let s = c .before .before .before .before .before .before .before .before .args in
     let p = c .before .before .before .before .before .before .before .before .pre .1 .1 in
     (omega arith, unseen (s .tables .now) (s .t) 0 (s .w) (s .rows .now) (s .weights .now) (s .notes .now) (p .0) (p .1) (p .2) (sym (elements-none (s .tables .now) (s .t) (read (s .w) (s .rows .now) (s .weights .now)))), refl, refl, refl, refl, refl, refl, refl)
 
 element-requires : tie.Need-element-requires Inv-loop μ-loop
-element-requires c κs = 
+element-requires c κs =
     let p = c .before .before .before .before .before .before .before .before .before .before .before .before .before .before .before .before .before .pre in
     let l = c .before .before .before .before .before .before .before .before .loop in (
       lent-same (l .rows) (l .tmp) (l .met) (l .held) (l .entering) (p .0) (l .inv .2) (l .inv .3) (l .inv .4) (l .inv .5) (l .inv .6),
@@ -44,7 +44,7 @@ loop-less : tie.Need-loop-less Inv-loop μ-loop
 loop-less c = search needs
 
 loop-again : tie.Need-loop-again Inv-loop μ-loop
-loop-again c = 
+loop-again c =
     let s = c .before .before .before .before .before .before .before .before .before .before .before .before .before .before .before .before .before .before .before .before .before .before .before .before .before .before .before .before .before .before .before .before .args in
     let l = c .before .before .before .before .before .before .before .before .before .before .before .before .before .before .before .before .before .before .before .before .before .before .before .loop in
     let T = s .tables .now in
@@ -89,7 +89,7 @@ same-length-7 : tie.Need-same-length-7 Inv-loop μ-loop
 same-length-7 c = search needs
 
 returns : tie.Need-returns Inv-loop μ-loop
-returns c = 
+returns c =
     let l = c .before .loop in
     let e : l .e ≡ 65 = omega (arith, l .inv .0, c .loop-test .left) in
     rw e at (l .inv .1)

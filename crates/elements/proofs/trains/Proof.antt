@@ -29,7 +29,7 @@ at-requires : tie.Need-at-requires Inv-loop μ-loop
 at-requires c κs = search needs
 
 loop-holds : tie.Need-loop-holds Inv-loop μ-loop
-loop-holds c = 
+loop-holds c =
     let s = c .before .before .before .before .before .before .before .before .before .args in
     let p = c .before .before .before .before .before .before .before .before .before .pre .1 .1 in
     (c .at .ensures, omega arith, unseen (s .tables .now) (s .t) (s .e) (s .w) (s .rows .now) (s .weights .now) (s .notes .now) (p .0) (p .1) (p .2) (sym (element-none (s .tables .now) (s .t) (s .e) (read (s .w) (s .rows .now) (s .weights .now)))), refl, refl, refl, refl, refl, refl, refl)
@@ -41,7 +41,7 @@ at-requires-2 : tie.Need-at-requires-2 Inv-loop μ-loop
 at-requires-2 c κs = search needs
 
 visit-requires : tie.Need-visit-requires Inv-loop μ-loop
-visit-requires c κs = 
+visit-requires c κs =
     let p = c .before .before .before .before .before .before .before .before .before .before .before .before .before .before .before .before .before .before .before .pre in
     let l = c .before .before .before .before .before .before .before .before .before .loop in (
       lent-same (l .rows) (l .tmp) (l .met) (l .held) (l .entering) (p .0) (l .inv .3) (l .inv .4) (l .inv .5) (l .inv .6) (l .inv .7),
@@ -58,7 +58,7 @@ loop-less : tie.Need-loop-less Inv-loop μ-loop
 loop-less c = search needs
 
 loop-again : tie.Need-loop-again Inv-loop μ-loop
-loop-again c = 
+loop-again c =
     let s = c .before .before .before .before .before .before .before .before .before .before .before .before .before .before .before .before .before .before .before .before .before .before .before .before .before .before .before .before .before .before .before .before .before .before .args in
     let l = c .before .before .before .before .before .before .before .before .before .before .before .before .before .before .before .before .before .before .before .before .before .before .before .before .loop in
     let T = s .tables .now in
@@ -105,7 +105,7 @@ same-length-7 : tie.Need-same-length-7 Inv-loop μ-loop
 same-length-7 c = search needs
 
 returns : tie.Need-returns Inv-loop μ-loop
-returns c = 
+returns c =
     let s = c .before .before .before .before .before .before .before .before .before .before .before .args in
     let l = c .before .loop in
     let e : l .j ≡ getD (s .tables .now) 0 0 = omega (arith, l .inv .0, l .inv .1, c .loop-test .left) in

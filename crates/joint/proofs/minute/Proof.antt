@@ -16,25 +16,25 @@ use Rattle.clearing.proofs.wake.Reads as wake-reads
 use Rattle.elements.proofs.elements.Reads as elements-reads
 
 returns : tie.Need-returns
-returns c = 
+returns c =
     let s = c .before .before .before .before .before .before .before .before .before .args in
     let p = c .before .before .before .before .before .before .before .before .before .pre .1 .1 in
     minute-over (s .tables .now) (s .t) (s .w) (s .rows .now) (s .weights .now) (p .0) (s .notes .now) (p .1) (omega arith)
 
 clear-requires : tie.Need-clear-requires
-clear-requires c κs = 
+clear-requires c κs =
     let p = c .before .before .before .before .before .before .before .before .before .before .before .pre .1 in
     (p .1 .0, p .1 .1, p .0 .0, p .1 .2 (omega (arith, p .1 .0 .within, c .before .before .if1 .left)))
 
 wake-requires : tie.Need-wake-requires
-wake-requires c κs = 
+wake-requires c κs =
     let s = c .before .before .before .before .before .before .before .before .before .before .before .before .before .before .before .before .before .before .args in
     let p = c .before .before .before .before .before .before .before .before .before .before .before .before .before .before .before .before .before .before .pre .1 in
     let d = c .before .before .before .before .before .before .clear .ensures in
     (d .kept, d .flagged, p .0 .0, p .0 .2, rw (d .list) (d .due), rw (d .list) (swept-current (s .t) (rowsOf (take (s .w) (s .rows .now)))))
 
 elements-requires : tie.Need-elements-requires
-elements-requires c κs = 
+elements-requires c κs =
     let p = c .before .before .before .before .before .before .before .before .before .before .before .before .before .before .before .before .before .before .before .before .before .before .before .before .before .before .before .before .pre in
     let d = c .before .before .before .before .before .before .before .before .before .before .before .before .before .before .before .before .clear .ensures in
     let n = c .before .before .before .before .before .before .before .before .before .wake .ensures in
@@ -62,7 +62,7 @@ same-length-7 : tie.Need-same-length-7
 same-length-7 c = search needs
 
 returns-2 : tie.Need-returns-2
-returns-2 c = 
+returns-2 c =
     let s = c .before .before .before .before .before .before .before .before .before .before .before .before .before .before .before .before .before .before .before .before .before .before .before .before .before .before .before .before .before .before .before .before .before .before .before .before .before .before .before .before .before .before .before .args in
     let p = c .before .before .before .before .before .before .before .before .before .before .before .before .before .before .before .before .before .before .before .before .before .before .before .before .before .before .before .before .before .before .before .before .before .before .before .before .before .before .before .before .before .before .before .pre .1 in
     minute-all (s .tables .now) (s .t) (s .w) (s .rows .now) (s .weights .now) (p .1 .0) (c .before .before .before .before .before .before .before .before .before .before .before .before .before .before .before .before .before .before .before .before .before .before .before .before .before .before .before .before .before .before .before .clear .result) (c .before .before .before .before .before .before .before .before .before .before .before .before .before .before .elements .result) _ _ _ _ _ (omega (arith, p .1 .0 .within, c .before .before .before .before .before .before .before .before .before .before .before .before .before .before .before .before .before .before .before .before .before .before .before .before .before .before .before .before .before .before .before .before .before .before .if1 .left)) (omega (arith, c .before .before .before .before .before .before .before .before .before .before .before .before .before .before .before .before .before .before .before .before .before .before .before .before .before .before .before .before .before .before .rows)) (c .before .before .before .before .before .before .before .before .before .before .before .before .before .before .before .before .before .before .before .before .before .before .before .before .before .before .before .before .before .before .before .clear .ensures) (c .before .before .before .before .before .before .before .before .before .before .before .before .before .before .elements .ensures)

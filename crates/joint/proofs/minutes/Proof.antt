@@ -27,13 +27,13 @@ abbrev μ-loop : tie.MeasureT-loop
 μ-loop rows₀ w tmp₀ tables met₀ held₀ entering₀ notes₀ weights₀ stop t₀ v₀ rows tmp met held entering notes weights t v = stop + 1 - t
 
 loop-holds : tie.Need-loop-holds Inv-loop μ-loop
-loop-holds c = 
+loop-holds c =
     let s = c .before .before .before .before .before .before .before .before .args in
     let p = c .before .before .before .before .before .before .before .before .pre .1 .1 in
     (omega arith, sym (minutes-none (s .tables .now) (read (s .w) (s .rows .now) (s .weights .now))), p .0, p .1, p .2, refl, refl, refl, refl, refl, refl, refl)
 
 minute-requires : tie.Need-minute-requires Inv-loop μ-loop
-minute-requires c κs = 
+minute-requires c κs =
     let p = c .before .before .before .before .before .before .before .before .before .before .before .before .before .before .before .before .before .pre in
     let l = c .before .before .before .before .before .before .before .before .loop in
     (lent-same (l .rows) (l .tmp) (l .met) (l .held) (l .entering) (p .0) (l .inv .5) (l .inv .6) (l .inv .7) (l .inv .8) (l .inv .9), ((omega (arith, c .before .before .before .before .before .before .before .loop-test .taken, p .1 .0 .0), p .1 .0 .1, p .1 .0 .2), (l .inv .2, l .inv .3, l .inv .4)))
@@ -45,7 +45,7 @@ loop-less : tie.Need-loop-less Inv-loop μ-loop
 loop-less c = search needs
 
 loop-again : tie.Need-loop-again Inv-loop μ-loop
-loop-again c = 
+loop-again c =
     let s = c .before .before .before .before .before .before .before .before .before .before .before .before .before .before .before .before .before .before .before .before .before .before .before .before .before .before .before .before .before .before .before .before .args in
     let l = c .before .before .before .before .before .before .before .before .before .before .before .before .before .before .before .before .before .before .before .before .before .before .before .loop in
     let T = s .tables .now in
@@ -86,7 +86,7 @@ same-length-7 : tie.Need-same-length-7 Inv-loop μ-loop
 same-length-7 c = search needs
 
 returns : tie.Need-returns Inv-loop μ-loop
-returns c = 
+returns c =
     let l = c .before .loop in
     let e : l .t ≡ c .before .before .before .before .before .before .before .before .before .before .args .stop + 1 = omega (arith, l .inv .0, c .loop-test .left) in
     (rw e at (l .inv .1), l .inv .2)

@@ -48,7 +48,7 @@ same-length-2 : tie.Need-same-length-2
 same-length-2 c = search needs
 
 returns-3 : tie.Need-returns-3
-returns-3 c = 
+returns-3 c =
     let s = c .before .before .before .before .before .before .before .before .before .before .before .before .before .before .before .before .before .before .args in
     let p = c .before .before .before .before .before .before .before .before .before .before .before .before .before .before .before .before .before .before .pre in
     let e : c .before .before .before .before .before .first .result * 2 ≡ s .w = omega (arith, p .1 .1 .0 .even) in
@@ -56,7 +56,7 @@ returns-3 c =
     (visit-none (s .tables .now) (s .t) (s .e) (s .w) (s .rows .now) (s .weights .now) (s .notes .now) (p .1 .1 .0) (p .1 .1 .1) (p .1 .1 .2) (s .k) (p .1 .0 .2) (omega (arith, p .1 .0 .0 .place)) (p .1 .0 .0 .train) (omega (arith, p .1 .1 .0 .within)) (rw e at (c .before .before .before .before .before .first .ensures .1)))
 
 served-requires : tie.Need-served-requires
-served-requires c κs = 
+served-requires c κs =
     let s = c .before .before .before .before .before .before .before .before .before .before .before .before .before .before .before .before .before .before .before .before .before .args in
     let p = c .before .before .before .before .before .before .before .before .before .before .before .before .before .before .before .before .before .before .before .before .before .pre in
     let e : s .w / 2 * 2 ≡ s .w = p .1 .1 .0 .even in
@@ -86,7 +86,7 @@ same-length-9 : tie.Need-same-length-9
 same-length-9 c = search needs
 
 returns-4 : tie.Need-returns-4
-returns-4 c = 
+returns-4 c =
     let s = c .before .before .before .before .before .before .before .before .before .before .before .before .before .before .before .before .before .before .before .before .before .before .before .before .before .before .before .before .before .before .before .before .before .before .before .before .args in
     let e : s .w / 2 * 2 ≡ s .w = c .before .before .before .before .before .before .before .before .before .before .before .before .before .before .before .before .before .before .before .before .before .before .before .before .before .before .before .before .before .before .before .before .before .before .before .before .pre .1 .1 .0 .even in
     rw e at (c .before .before .before .before .before .before .before .before .before .before .before .before .before .before .served .ensures)
