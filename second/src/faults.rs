@@ -131,19 +131,22 @@ fn which(conditions: &[(bool, Fault)]) -> Vec<Fault> {
 pub fn in_case(bytes: &[u8], place: usize) -> Vec<Fault> {
     let (case, before) = read_fields(&bytes[..place]).expect("sound fields");
     let field = &bytes[place..];
-    let Some(tag) = field.first().copied() else {
-        return which(&[
-            (case.head.is_none(), EndWithoutHead),
-            (case.stations.is_empty(), EndWithoutStation),
-            (case.trains.is_empty(), EndWithoutTrain),
-        ]);
+    let tag = match field.first() {
+        Some(tag) => *tag,
+        None => {
+            return which(&[
+                (case.head.is_none(), EndWithoutHead),
+                (case.stations.is_empty(), EndWithoutStation),
+                (case.trains.is_empty(), EndWithoutTrain),
+            ])
+        }
     };
     let mut faults = which(&[
         (tag == 0, TagZero),
         (tag > TABLE_TAG, TagAbove),
         (before.is_none() && tag != HEAD_TAG, NoHeadFirst),
         (before.is_some() && tag == HEAD_TAG, SecondHead),
-        (before.is_some_and(|before| tag < before), FallingTag),
+        (before.map_or(false, |before| tag < before), FallingTag),
         (one_too_many(&case, tag), TooMany),
     ]);
     faults.extend(field_faults(&case, field));
@@ -267,7 +270,7 @@ fn times_faults(case: &Case, stops: &[Stop]) -> Vec<Fault> {
         (negative(last), LastStayNegative),
         ((0..last).map(drive).any(|(a, b)| a == b), DriveOfNoLength),
         ((0..last).map(drive).any(|(a, b)| a > b), DriveNegative),
-        (case.head.as_ref().is_some_and(past), PastLastMinute),
+        (case.head.as_ref().map_or(false, past), PastLastMinute),
     ])
 }
 
@@ -281,7 +284,7 @@ fn table_faults(tables: &[Table], body: &[u8]) -> Vec<Fault> {
     let sum: u64 = delays.iter().map(|delay| delay.weight).sum();
     which(&[
         (before == Some(body[0]), TypeEqual),
-        (before.is_some_and(|before| body[0] < before), TypeFalls),
+        (before.map_or(false, |before| body[0] < before), TypeFalls),
         (neighbours(|one, next| one == next), DelaysEqual),
         (neighbours(|one, next| one > next), DelaysFall),
         (delays.iter().any(|delay| delay.weight == 0), WeightZero),

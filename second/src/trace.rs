@@ -27,9 +27,12 @@ pub fn trace(plan: &Plan) -> Trace {
         held: vec![0; 256],
         ..Trace::default()
     };
-    let Ok(mut joint) = JointRun::start(plan) else {
-        seen.refused_at_first = true;
-        return seen;
+    let mut joint = match JointRun::start(plan) {
+        Ok(joint) => joint,
+        Err(_) => {
+            seen.refused_at_first = true;
+            return seen;
+        }
     };
     let mut generations = vec![0; joint.list.len()];
     for t in 0..=plan.head.last_minute {
