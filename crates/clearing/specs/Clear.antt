@@ -3,7 +3,7 @@ use mathlib.Core.Path.{_≡_}
 use mathlib.Core.Bool.{true, false, cond}
 use mathlib.Core.List.{List}
 use Prim.Native.Nat.{ℕ, _+_, _/_, _%_, _≤_, _<_}
-use lib.ListN.{length, take, getD}
+use lib.ListN.{take, getD}
 use lib.Dec.{eqb}
 use Rattle.simulation.specs.Lists.{Every}
 use Rattle.rows.specs.Rows.{Row, rowsOf, endedOf, sweptOf}

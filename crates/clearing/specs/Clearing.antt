@@ -7,13 +7,13 @@ use native.Mathlib.Omega.{arith}
 use borrow.Author.Tests.{eqb-true, eqb-false, le-ltb, ltb-true, ltb-false}
 use lib.ListN.{length, take, getD}
 use lib.Dec.{eqb, ltb}
-use Rattle.rules.specs.Lists.{one, each, keep}
-use Rattle.simulation.specs.Lists.{Every, every-append, every-more, every-keep, every-each, every-one, each-every, each-self}
+use Rattle.rules.specs.Lists.{one, keep}
+use Rattle.simulation.specs.Lists.{Every, every-append, every-more, every-keep, every-one}
 use Rattle.rows.specs.Rows.{Row, rowsOf, rowsIn, rowAt, endedOf, sweptOf}
 use Rattle.rows.specs.Written.{rowsIn-more}
 use Rattle.quiet.specs.Parts.{Sub, sub-trans}
 use Rattle.asking.specs.Ask.{dueOf}
-use Rattle.waiting.specs.Calm.{waitsOf, spot, spotOf, Settled, Calm, Told}
+use Rattle.waiting.specs.Calm.{waitsOf, spot, spotOf, Settled, Told}
 use Rattle.waiting.specs.Stirred.{due-waits, calm-swept, calm-later}
 use Rattle.waiting.specs.Notes.{stirIn, askedIn, toldAll, freshOf, Flagged, Grows}
 use Rattle.waiting.specs.Telling.{grows-same, grows-trans, told-keeps, TellsAll, told-all, Freshens, fresh-law}
@@ -83,9 +83,6 @@ module _ (T : List ℕ) (t s c : ℕ) (N : List ℕ) (F : Flagged N) (ways : Way
     where
       fresh : Freshens N (spotOf T s) c (freshOf N (spotOf T s) c)
       fresh = fresh-law N (spotOf T s) c (spot-low T s ways train) F
-
-      M : Bool → Bool → List ℕ
-      M a b = cond a (cond b (freshOf N (spotOf T s) c) N) N
 
       go : (a b : Bool) → eqb (s % 4096) t ≡ a → dueOf t s ≡ b → Grows N (cond a (cond b (freshOf N (spotOf T s) c) N) N) × Flagged (cond a (cond b (freshOf N (spotOf T s) c) N) N)
           × (waitsOf t s ≡ false → waitsOf (t + 1) s ≡ true → (askedIn (cond a (cond b (freshOf N (spotOf T s) c) N) N) (spotOf T s) ≡ 0 → ⊥) × Sub c (stirIn (cond a (cond b (freshOf N (spotOf T s) c) N) N) (spotOf T s)))

@@ -1,17 +1,16 @@
 -- The tables of a sound case: planned minutes and codes fit their places, an element is next from one place of a train alone, and each train has a delay.
 -- All askers of a train for an element stand at the place before it on the train's way. Assumes nothing.
-use mathlib.Core.Path.{_≡_, refl, ap, ap₂, sym, _∙_}
-use mathlib.Core.Bool.{Bool, true, false, not, cond, _&&_, false≢true}
+use mathlib.Core.Path.{_≡_, refl, ap, sym, _∙_}
+use mathlib.Core.Bool.{Bool, true, false, _&&_}
 use mathlib.Core.List.{List, [], _∷_}
-use Prim.Native.Nat.{ℕ, zero, suc, _+_, _*_, _/_, _%_, _≤_, _<_}
+use Prim.Native.Nat.{ℕ, _+_, _*_, _/_, _%_, _≤_, _<_}
 use native.Mathlib.Omega.{arith}
 use borrow.Author.Tests.{le-leb, eqb-true, eqb-false}
 use lib.ListN.{length, getD}
 use lib.Dec.{eqb, leb}
 use Rattle.rules.specs.Lists.{sum}
 use Rattle.rules.specs.Files.{Pair, Case}
-use Rattle.rules.specs.Turns.{Place, same, Mark, stands, Leg, way, ahead, headIs, asks}
-use Rattle.rules.specs.Turns.Place.{outside}
+use Rattle.rules.specs.Turns.{Place, same, stands, Leg, way, ahead, headIs, asks}
 use Rattle.sound.specs.Facts.{Sound}
 use Rattle.sound.specs.Trains.{Known, way-planned}
 use Rattle.simulation.specs.Places.{same-self}

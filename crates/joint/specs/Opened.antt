@@ -9,7 +9,7 @@ use borrow.Author.Tests.{ne-eqb, ltb-true}
 use lib.ListN.{length, take, getD, replicate}
 use lib.Dec.{eqb, ltb}
 use lib.Pow.{pow-mono}
-use Rattle.rules.specs.Lists.{each, below}
+use Rattle.rules.specs.Lists.{below}
 use Rattle.simulation.specs.Lists.{Every, every-each, every-map, every-below}
 use Rattle.cut.specs.Cut.{fullOf}
 use Rattle.rows.specs.Rows.{Row, rowsOf, rowsIn, words, Put}

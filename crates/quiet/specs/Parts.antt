@@ -6,13 +6,13 @@ use mathlib.Core.List.{List, [], _∷_, _++_, map}
 use Prim.Native.Nat.{ℕ, zero, suc, _+_, _-_, _*_, _/_, _%_, _^_, min, max, _≤_, _<_}
 use native.Mathlib.Nat.{pow-succ'}
 use native.Mathlib.Omega.{arith}
-use borrow.Author.Tests.{eq-eqb, eqb-true, eqb-false}
+use borrow.Author.Tests.{eq-eqb, eqb-true}
 use lib.Bits.{bitAnd, bitOr, and-step, or-step, or-comm, and-self, and-comm, and-zero-l, and-le-l, and-le-r, and-mod, and-shr, and-block}
 use lib.Dec.{eqb}
 use lib.Pow.{high, low}
 use Rattle.rules.specs.Lists.{one}
 use Rattle.simulation.specs.Lists.{Every, every-append, every-map, every-one}
-use Rattle.cut.specs.Cut.{fullOf, outsideOf, outs}
+use Rattle.cut.specs.Cut.{fullOf, outs}
 use Rattle.cut.specs.Covers.{first-of, rest-of, outside-piece, next-common, next-low}
 
 -- ---- bits in common

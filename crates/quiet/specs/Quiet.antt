@@ -2,17 +2,17 @@
 -- are needed have it. A quiet piece is held again, uncut; a held piece is quiet for the covers that held it; and covers that come in at the end change
 -- nothing. Each is shown by induction on the covers still to meet. Assumes nothing.
 use mathlib.Core.Path.{_≡_, refl, ap, ap₂, sym, _∙_, subst}
-use mathlib.Core.Bool.{Bool, true, false, not, false≢true}
-use mathlib.Core.List.{List, [], _∷_, _++_, map, append-nil}
+use mathlib.Core.Bool.{Bool, true, false, false≢true}
+use mathlib.Core.List.{List, [], _∷_, _++_, append-nil}
 use Prim.Native.Nat.{ℕ, zero, suc, _+_, _-_, _≤_, _<_}
 use native.Mathlib.Omega.{arith}
 use borrow.Author.Tests.{leb-true, leb-false, le-leb, lt-leb, le-ltb}
 use lib.ListN.{length}
 use lib.Bits.{bitAnd, and-self}
 use lib.Dec.{leb, ltb}
-use Rattle.rules.specs.Lists.{one, each, keep}
-use Rattle.simulation.specs.Lists.{Every, every-append, every-each, every-more, every-map}
-use Rattle.cut.specs.Cut.{Part, part, fullOf, outs, turn, carried, heldOf}
+use Rattle.rules.specs.Lists.{each}
+use Rattle.simulation.specs.Lists.{Every, every-append, every-each, every-more}
+use Rattle.cut.specs.Cut.{Part, part, fullOf, outs, turn, carried}
 use Rattle.cut.specs.Covers.{outs-nothing}
 use Rattle.quiet.specs.Parts.{Sub, sub-trans, sub-left, sub-right, apart-part, Outside, outside-pieces}
 

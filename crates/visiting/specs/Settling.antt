@@ -1,11 +1,11 @@
 -- What is noted after a pass is what its rows need to stay calm: the pair that asked starts anew, the pairs that the pass concerns are told of all that
 -- moved, and the minutes of the new states are shown. Each step only makes the other words grow. Assumes nothing.
 use mathlib.Core.Path.{_≡_, refl, ap, sym, _∙_}
-use mathlib.Core.Bool.{Bool, true, false, not, cond, false≢true}
+use mathlib.Core.Bool.{Bool, true, false, cond, false≢true}
 use mathlib.Core.List.{List}
 use Prim.Native.Nat.{ℕ, zero, suc, _+_, _*_, _/_, _%_, _≤_, _<_}
 use native.Mathlib.Omega.{arith}
-use borrow.Author.Tests.{eq-eqb, eqb-true, eqb-false, lt-ltb, ltb-true}
+use borrow.Author.Tests.{eq-eqb, eqb-true, eqb-false, ltb-true}
 use lib.ListN.{length, getD, set, length-set}
 use lib.Seq.{getD-set-same, getD-set-other}
 use lib.Bits.{bitAnd, bitOr}
@@ -13,9 +13,9 @@ use lib.Dec.{eqb, ltb}
 use Rattle.quiet.specs.Parts.{Sub, sub-trans}
 use Rattle.weigh.specs.Weigh.{Small}
 use Rattle.asking.specs.declared.Job.{Job}
-use Rattle.asking.specs.Ask.{dueOf, nextOf, capOf, asksOf, jobOf, Within}
-use Rattle.asking.specs.Asking.{Asking, asking}
-use Rattle.waiting.specs.Calm.{waitsOf, spot, spotOf, Told}
+use Rattle.asking.specs.Ask.{dueOf, asksOf, jobOf, Within}
+use Rattle.asking.specs.Asking.{asking}
+use Rattle.waiting.specs.Calm.{waitsOf, spot, spotOf}
 use Rattle.waiting.specs.Stirred.{due-waits, Spread, Ready}
 use Rattle.waiting.specs.Notes.{stirIn, askedIn, toldAll, freshOf, Flagged, Grows}
 use Rattle.waiting.specs.Telling.{grows-same, grows-trans, grows-minute, told-keeps, TellsAll, told-all, Freshens, fresh-law, told-length}

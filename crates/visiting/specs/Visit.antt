@@ -1,6 +1,6 @@
 -- One pass as an outcome: rows and weights, or refusal 12; and what a run notes of its rows. Assumes nothing: these are definitions.
 use mathlib.Core.Path.{_≡_}
-use mathlib.Core.Bool.{Bool, true, false, cond}
+use mathlib.Core.Bool.{Bool, false, cond}
 use mathlib.Core.List.{List, [], _∷_}
 use Prim.Native.Nat.{ℕ, _+_, _*_, _/_, _%_, _^_, _≤_, _<_}
 use lib.ListN.{length, take, getD, set}
@@ -10,7 +10,7 @@ use Rattle.simulation.specs.Lists.{Every}
 use Rattle.rows.specs.Rows.{Row, rowsOf, endedOf}
 use Rattle.weigh.specs.Weigh.{broughtOf}
 use Rattle.asking.specs.declared.Job.{Job}
-use Rattle.asking.specs.Ask.{dueOf, nextOf, asksOf, askerOf, jobOf}
+use Rattle.asking.specs.Ask.{dueOf, asksOf, askerOf, jobOf}
 use Rattle.serving.specs.Pass.{coversOf, passedOf}
 use Rattle.waiting.specs.Calm.{spot, spotOf, Calm}
 use Rattle.waiting.specs.Notes.{stirIn, askedIn, toldAll, freshOf, Flagged}

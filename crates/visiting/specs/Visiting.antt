@@ -7,29 +7,28 @@ use Prim.Native.Nat.{ℕ, _+_, _*_, _/_, _%_, _≤_, _<_}
 use native.Mathlib.Decide.{decLt}
 use native.Mathlib.Omega.{arith}
 use lib.ListN.{length, take, getD, set, length-set}
-use lib.Seq.{slice, getD-set-same, getD-set-other}
+use lib.Seq.{slice, getD-set-other}
 use lib.Bits.{bitAnd, and-zero-r}
 use lib.Dec.{eqb, ltb}
-use borrow.Author.Tests.{lt-ltb, le-ltb, eq-eqb, ne-eqb, eqb-true, eqb-false, ltb-true, ltb-false}
-use Rattle.rules.specs.Lists.{any, each}
+use borrow.Author.Tests.{lt-ltb, le-ltb, eq-eqb, eqb-true, ltb-true}
+use Rattle.rules.specs.Lists.{any}
 use Rattle.simulation.specs.Lists.{Every, every-more, any-append, any-none, each-every, each-self, each-none, every-all}
 use Rattle.cut.specs.Cut.{fullOf}
 use Rattle.rows.specs.Rows.{Row, rowsOf, rowsIn, rowAt, endedOf, enteredRows}
 use Rattle.rows.specs.Written.{rowsOf-words, rowsIn-length, rowsIn-more, rows-split}
 use Rattle.weigh.specs.Weigh.{Small}
 use Rattle.asking.specs.declared.Job.{Job}
-use Rattle.asking.specs.Ask.{dueOf, nextOf, asksOf, askerOf, capOf, jobOf, metFor, askingOf, stirredOf, Within}
+use Rattle.asking.specs.Ask.{nextOf, asksOf, askerOf, jobOf, metFor, askingOf, stirredOf, Within}
 use Rattle.serving.specs.declared.Ends.{Ends}
 use Rattle.serving.specs.Pass.{holdStirred, enterStirred, coversOf, passedOf, stirredCovers, stirredPass, Went, Passed}
-use Rattle.waiting.specs.Calm.{waitsOf, spot, spotOf, Still, Settled, Calm}
+use Rattle.waiting.specs.Calm.{waitsOf, spot, spotOf, Still, Settled}
 use Rattle.waiting.specs.Calm.Still.{stirred, quiet}
 use Rattle.waiting.specs.Stirred.{due-waits, covers-stirred, passed-stirred, calm-passed}
 use Rattle.waiting.specs.Notes.{stirIn, askedIn, Flagged}
-use Rattle.waiting.specs.Telling.{stir-is}
 use Rattle.visiting.specs.Visit.{Outcome, arrivedOf, guard, jobFor, someAsks, afterPass, passOf, settledOf, read, Kept, Ways, Noted, Seen}
 use Rattle.visiting.specs.Visit.Outcome.{refused, stands}
 use Rattle.visiting.specs.States.{passed-states}
-use Rattle.visiting.specs.Settling.{Settles, settles, job-stands, job-ready, reset-stir, reset-asked, reset-flagged, reset-minutes}
+use Rattle.visiting.specs.Settling.{Settles, settles, job-stands, job-ready, reset-flagged, reset-minutes}
 
 -- ---- reading
 

@@ -1,9 +1,9 @@
 -- What a run notes beside its rows, as words: what stirred each pair of train and element, whether a pair of an element is stirred, whether rows of a pair
 -- wait, and which minutes the rows show. Assumes nothing: these are definitions.
 use mathlib.Core.Path.{_≡_}
-use mathlib.Core.Bool.{Bool, cond}
+use mathlib.Core.Bool.{cond}
 use mathlib.Core.List.{List}
-use Prim.Native.Nat.{ℕ, zero, suc, _+_, _*_, _%_, _<_}
+use Prim.Native.Nat.{ℕ, zero, suc, _+_, _%_, _<_}
 use lib.ListN.{length, getD, set}
 use lib.Bits.{bitOr}
 use lib.Dec.{ltb, eqb}

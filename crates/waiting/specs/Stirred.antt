@@ -3,14 +3,13 @@
 use mathlib.Core.Path.{_≡_, refl, ap, ap₂, sym, _∙_, subst}
 use mathlib.Core.Bool.{Bool, true, false, not, cond, false≢true}
 use mathlib.Core.List.{List, [], _∷_, _++_, map, append-nil}
-use Prim.Native.Nat.{ℕ, _+_, _-_, _*_, _/_, _%_, _≤_, _<_}
+use Prim.Native.Nat.{ℕ, _+_, _-_, _/_, _%_, _≤_, _<_}
 use native.Mathlib.Omega.{arith}
-use borrow.Author.Tests.{eq-eqb, eqb-true, eqb-false, ltb-true, ltb-false, lt-ltb, le-ltb}
-use lib.ListN.{getD}
+use borrow.Author.Tests.{eq-eqb, ltb-true, ltb-false, lt-ltb, le-ltb}
 use lib.Bits.{bitAnd}
 use lib.Dec.{eqb, ltb}
 use Rattle.rules.specs.Lists.{one, each, keep}
-use Rattle.simulation.specs.Lists.{Every, each-self, each-every, every-append, every-each, every-more, every-map, every-one, every-keep}
+use Rattle.simulation.specs.Lists.{Every, each-self, each-every, every-append, every-each, every-more, every-map, every-one}
 use Rattle.cut.specs.Cut.{Part, part, fullOf, carried, heldOf, enteringOf}
 use Rattle.rows.specs.Rows.{Row, row, metOf, endedOf, sweptOf, heldRows, enteredRows}
 use Rattle.asking.specs.declared.Job.{Job}
@@ -20,7 +19,6 @@ use Rattle.serving.specs.Pass.{holdBy, enterBy, holdRow, enterRow, coversOf, pa
 use Rattle.serving.specs.Pass.Went.{as-it-is, moves}
 use Rattle.quiet.specs.Parts.{Sub, sub-trans}
 use Rattle.quiet.specs.Quiet.{Quiet, quiet-held, Piece, pieces}
-use Rattle.quiet.specs.Like.{part-apart}
 use Rattle.waiting.specs.Calm.{waitsOf, spot, spotOf, metAt, Still, Settled, Calm, Told, Moved, still-next, settled-next}
 use Rattle.waiting.specs.Calm.Still.{stirred, quiet}
 use Rattle.waiting.specs.Calm.Told.{nobody, told}
