@@ -6,9 +6,21 @@ use crate::reader::*;
 use crate::refusal;
 use Fault::*;
 
-/// A way in which a field, or the end of a case, is not sound; in the order in which they are judged.
-#[derive(Clone, Copy, Debug, PartialEq, Eq, PartialOrd, Ord)]
-pub enum Fault {
+/// The faults, as a type and as a list, in one order.
+macro_rules! faults {
+    ($($fault:ident,)*) => {
+        /// A way in which a field, or the end of a case, is not sound; in the order in which they are judged.
+        #[derive(Clone, Copy, Debug, PartialEq, Eq, PartialOrd, Ord)]
+        pub enum Fault {
+            $($fault,)*
+        }
+
+        /// All faults, in the order in which they are judged.
+        pub const ALL: [Fault; 44] = [$($fault,)*];
+    };
+}
+
+faults! {
     HeaderCut,
     TagZero,
     TagAbove,
@@ -54,54 +66,6 @@ pub enum Fault {
     SumLow,
     SumHigh,
 }
-
-/// All faults, in the order in which they are judged.
-pub const ALL: [Fault; 44] = [
-    HeaderCut,
-    TagZero,
-    TagAbove,
-    NoHeadFirst,
-    SecondHead,
-    FallingTag,
-    NoTableInBook,
-    Length,
-    BodyCut,
-    TooMany,
-    EndWithoutHead,
-    EndWithoutStation,
-    EndWithoutTrain,
-    LastMinuteZero,
-    LastMinuteHigh,
-    SafetyHigh,
-    RoomZero,
-    RoomHigh,
-    CapacityZero,
-    UnknownFrom,
-    UnknownTo,
-    EqualEnds,
-    EarlierEnds,
-    UnknownFirstStop,
-    UnknownStopBetween,
-    UnknownLastStop,
-    StopTwiceRunning,
-    StopAgainLater,
-    NoTrackFromFirst,
-    NoTrackBetween,
-    NoTrackToLast,
-    FirstStayNegative,
-    StayBetweenNegative,
-    LastStayNegative,
-    DriveOfNoLength,
-    DriveNegative,
-    PastLastMinute,
-    TypeEqual,
-    TypeFalls,
-    DelaysEqual,
-    DelaysFall,
-    WeightZero,
-    SumLow,
-    SumHigh,
-];
 
 impl Fault {
     /// The refusal that the fault gives if no other is judged before it.

@@ -120,7 +120,7 @@ fn far_single_vector(chance: &mut Chance, files: &Files, plan: &Plan, names: &st
 }
 
 /// The memories that a call is lent.
-const LENT: [(&str, &str); 7] = [
+pub const LENT: [(&str, &str); 7] = [
     ("run", "rows"),
     ("run", "weights"),
     ("listing", "rows"),

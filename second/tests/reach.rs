@@ -1,13 +1,13 @@
 //! What the fixed vectors reach, on which the exported functions are compared: each kind of refusal in each field it can stand in, each two faults that
 //! can meet in one field, held entries split again and again, pieces held at each count, and each refusal of a call. No count may be zero.
 
-use second::faults::{in_book, in_case, Fault, Fault::*};
+use second::faults::{in_book, in_case, Fault, Fault::*, ALL};
 use second::inputs::MOST_MET;
 use second::plan::Plan;
 use second::reader::*;
 use second::refusal::*;
 use second::trace::trace;
-use second::vectors;
+use second::vectors::{self, LENT};
 use second::writer::from_hex;
 use std::collections::{BTreeMap, BTreeSet};
 use std::sync::OnceLock;
@@ -176,39 +176,7 @@ const NEVER_FIRST: [(Seat, &[Fault]); 6] = [
 ];
 
 /// Faults of a body that is all there.
-const OF_BODIES: &[Fault] = &[
-    LastMinuteZero,
-    LastMinuteHigh,
-    SafetyHigh,
-    RoomZero,
-    RoomHigh,
-    CapacityZero,
-    UnknownFrom,
-    UnknownTo,
-    EqualEnds,
-    EarlierEnds,
-    UnknownFirstStop,
-    UnknownStopBetween,
-    UnknownLastStop,
-    StopTwiceRunning,
-    StopAgainLater,
-    NoTrackFromFirst,
-    NoTrackBetween,
-    NoTrackToLast,
-    FirstStayNegative,
-    StayBetweenNegative,
-    LastStayNegative,
-    DriveOfNoLength,
-    DriveNegative,
-    PastLastMinute,
-    TypeEqual,
-    TypeFalls,
-    DelaysEqual,
-    DelaysFall,
-    WeightZero,
-    SumLow,
-    SumHigh,
-];
+const OF_BODIES: &[Fault] = ALL.split_at(LastMinuteZero as usize).1;
 
 /// Faults that never meet in one field: any of the first with any of the second.
 const NEVER_TOGETHER: [(&[Fault], &[Fault]); 10] = [
@@ -449,17 +417,6 @@ fn calls_reach_each_refusal_of_their_arguments_and_memory() {
     }
     counts.show();
 }
-
-/// The memories that a call is lent.
-const LENT: [(&str, &str); 7] = [
-    ("run", "rows"),
-    ("run", "weights"),
-    ("listing", "rows"),
-    ("listing", "weights"),
-    ("listing", "text"),
-    ("figures", "rows"),
-    ("figures", "weights"),
-];
 
 /// The other kinds of calls.
 const CALLS: [&str; 22] = [

@@ -1,4 +1,5 @@
 -- Who asks for an element and what a pass is for, on rows of two words and the words T that the runs look up. Assumes nothing: these are definitions.
+use mathlib.Core.Path.{_≡_}
 use mathlib.Core.Bool.{Bool, false, not, cond}
 use mathlib.Core.List.{List, [], _∷_}
 use Prim.Native.Nat.{ℕ, _+_, _*_, _/_, _%_, _≤_, _<_}
@@ -22,6 +23,14 @@ nextOf T s = getD T (240 + s / 4096) 0
 -- a state of train k that is due at t and whose next element is e
 unfoldable pub asksOf : List ℕ → ℕ → ℕ → ℕ → ℕ → Bool
 asksOf T t e k s = cond (eqb (s / 524288) k) (cond (dueOf t s) (eqb (nextOf T s) e) false) false
+
+-- a state from `key` on, at most t past it: where `key` is the standing state of a train at a place for minute 0, one of theirs that is due at t
+unfoldable pub reachOf : ℕ → ℕ → ℕ → Bool
+reachOf key t s = cond (ltb s key) false (not (ltb (key + t) s))
+
+-- a row that is reached and shares a choice with u
+unfoldable pub stirsOf : ℕ → ℕ → ℕ → Row → Bool
+stirsOf key t u r = cond (reachOf key t (r .state)) (fullOf 8 (bitAnd (r .cover) u)) false
 
 -- the state of the first row that asks
 unfoldable pub askerOf : List ℕ → ℕ → ℕ → ℕ → List Row → ℕ
@@ -58,6 +67,11 @@ unfoldable pub stirredOf : List ℕ → Job → ℕ → Row → Bool
 stirredOf T q u r = cond (askingOf T q r) (fullOf 8 (bitAnd (r .cover) u)) false
 
 -- ---- contracts
+
+-- the place from which train k goes on to e, or 66 if there is none
+pub data Before (T : List ℕ) (k e p : ℕ) : Type 0 where
+  here : p ≤ 65 → getD T (240 + (k * 128 + p)) 0 ≡ e → Before T k e p
+  nowhere : p ≡ 66 → ((j : ℕ) → j ≤ 65 → getD T (240 + (k * 128 + j)) 0 ≡ e → ⊥) → Before T k e p
 
 -- the minute, element and train of a pass
 pub record Within (t e k : ℕ) : Type 0 where

@@ -1,2 +1,3 @@
 pub mod Ask
 pub mod Asking
+pub mod Reach

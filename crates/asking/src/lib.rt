@@ -3,10 +3,11 @@ ghost use mathlib.Core.Path.{_≡_};
 ghost use mathlib.Core.Bool.{true, false};
 ghost use Prim.Native.Nat.{_*_, _≤_, _<_};
 ghost use lib.ListN.{length, getD};
-ghost use Rattle.simulation.specs.Lists.{Every};
-ghost use Rattle.rows.specs.Rows.{row, rowsIn, Put};
+ghost use lib.Seq.{slice};
+ghost use Rattle.lists.specs.Every.{Every};
+ghost use Rattle.rows.specs.Rows.{row, rowsOf, rowsIn, rowAt, Begins};
 ghost use Rattle.weigh.specs.Weigh.{Small};
-ghost use Rattle.asking.specs.Ask.{dueOf, asksOf, capOf, jobOf, metFor, stirredOf, Within};
+ghost use Rattle.asking.specs.Ask.{dueOf, asksOf, reachOf, stirsOf, capOf, jobOf, metFor, Before, Within};
 
 // What a pass is for: minute, element and train; the element's capacity; the state of what enters, that of the block it leaves, and whether it
 // leaves one.
@@ -30,6 +31,32 @@ pub fn due(s: u64, t: u64) -> bool
     !(t < s % 2048)
 }
 
+// The place from which train k goes on to e, or 66 if there is none.
+pub fn before(tables: &[u64], k: u64, e: u64) -> u64
+    requires { ⌜ k < 8 ⌝ }
+    ensures { λ r. ⌜ Before (now (tables .entry)) k e r ⌝ }
+{
+    let mut p = 0;
+    while p < 66 {
+        if words::at(tables, 240 + (k * 128 + p)) == e {
+            return p;
+        }
+        p += 1;
+    }
+    p
+}
+
+// Whether s is a state of the train, place and kind of `key` whose minute is at most t; `key` is their state of minute 0.
+pub fn reached(s: u64, key: u64, t: u64) -> bool
+    requires { ⌜ (key < 4294967296) × (t < 2048) ⌝ }
+    ensures { λ r. ⌜ r ≡ reachOf key t s ⌝ }
+{
+    if t < std::num::wrapping_sub_u64(s, key) {
+        return false;
+    }
+    true
+}
+
 // Whether s is a state of train k that is due at t and whose next element is e.
 pub fn asks(tables: &[u64], s: u64, t: u64, e: u64, k: u64) -> bool
     ensures { λ r. ⌜ r ≡ asksOf (now (tables .entry)) t e k s ⌝ }
@@ -40,7 +67,7 @@ pub fn asks(tables: &[u64], s: u64, t: u64, e: u64, k: u64) -> bool
     if !due(s, t) {
         return false;
     }
-    rows::at(tables, 240 + s / 4096) == e
+    words::at(tables, 240 + s / 4096) == e
 }
 
 // The first of the first n rows that asks, or n.
@@ -59,13 +86,54 @@ pub fn first(rows: &[u64], n: usize, tables: &[u64], t: u64, e: u64, k: u64) -> 
     i
 }
 
+// The first of the first n rows that is reached, or n.
+pub fn first_reached(rows: &[u64], n: usize, key: u64, t: u64) -> usize
+    requires { ⌜ (n * 2 ≤ length (now rows)) × (key < 4294967296) × (t < 2048) ⌝ }
+    ensures { λ r. ⌜ (r ≤ n) × Every (λ x. reachOf key t (x .state) ≡ false) (rowsIn r (now (rows .entry))) × (r < n → reachOf key t (getD (now (rows .entry)) (r * 2) 0) ≡ true) ⌝ }
+{
+    let mut i = 0;
+    while i < n {
+        if reached(rows[i * 2], key, t) {
+            return i;
+        }
+        i += 1;
+    }
+    i
+}
+
+// Whether the row of the state s and the cover c is reached and shares a choice with u.
+pub fn stirs(s: u64, c: u64, key: u64, t: u64, u: u64) -> bool
+    requires { ⌜ (key < 4294967296) × (t < 2048) ⌝ }
+    ensures { λ r. ⌜ r ≡ stirsOf key t u (row s c) ⌝ }
+{
+    if !reached(s, key, t) {
+        return false;
+    }
+    cut::full(c & u)
+}
+
+// The first row from i up to n that is reached and shares a choice with u, or n.
+pub fn next(rows: &[u64], i: usize, n: usize, key: u64, t: u64, u: u64) -> usize
+    requires { ⌜ (i ≤ n) × (n * 2 ≤ length (now rows)) × (key < 4294967296) × (t < 2048) ⌝ }
+    ensures { λ r. ⌜ (i ≤ r) × (r ≤ n) × Every (λ x. stirsOf key t u x ≡ false) (rowsOf (slice (i * 2) (r * 2) (now (rows .entry)))) × (r < n → stirsOf key t u (rowAt (now (rows .entry)) r) ≡ true) ⌝ }
+{
+    let mut j = i;
+    while j < n {
+        if stirs(rows[j * 2], rows[j * 2 + 1], key, t, u) {
+            return j;
+        }
+        j += 1;
+    }
+    j
+}
+
 // The capacity of e; the way out has no limit.
 pub fn capacity(tables: &[u64], e: u64) -> u64
     requires { ⌜ e < 128 ⌝ }
     ensures { λ r. ⌜ r ≡ capOf (now (tables .entry)) e ⌝ }
 {
     if e < 64 {
-        return rows::at(tables, 176 + e);
+        return words::at(tables, 176 + e);
     }
     1
 }
@@ -76,8 +144,8 @@ pub fn assign(tables: &[u64], t: u64, e: u64, k: u64, s: u64) -> Job
     ensures { λ r. ⌜ r ≡ jobOf (now (tables .entry)) t e k s ⌝ }
 {
     let cap = capacity(tables, e);
-    let stay = rows::at(tables, 1264 + (k * 128 + e));
-    let safety = rows::at(tables, 2);
+    let stay = words::at(tables, 1264 + (k * 128 + e));
+    let safety = words::at(tables, 2);
     let from = s / 4096 % 128;
     Job {
         minute: t,
@@ -92,21 +160,11 @@ pub fn assign(tables: &[u64], t: u64, e: u64, k: u64, s: u64) -> Job
 
 // The covers that the job's train meets; on the way out there are none.
 pub fn meet(rows: &[u64], n: usize, q: Job, out: &mut [u64]) -> usize
-    requires { ⌜ n * 2 ≤ length (now rows) ⌝ }
-    ensures { λ r. ⌜ Put (now (out .entry)) 0 (metFor q (rowsIn n (now (rows .entry)))) r (now (out .exit)) ⌝ }
+    requires { ⌜ (n * 2 ≤ length (now rows)) × (n ≤ length (now out)) ⌝ }
+    ensures { λ r. ⌜ Begins (metFor q (rowsIn n (now (rows .entry)))) r (now (out .exit)) ⌝ }
 {
     if q.place < 64 {
         return rows::gather(rows, n, q.place, q.train, out);
     }
     0
-}
-
-// Whether the row of the state s and the cover c asks in the job's pass and shares a choice with u.
-pub fn stirs(tables: &[u64], s: u64, c: u64, u: u64, q: Job) -> bool
-    ensures { λ r. ⌜ r ≡ stirredOf (now (tables .entry)) q u (row s c) ⌝ }
-{
-    if !asks(tables, s, q.minute, q.place, q.train) {
-        return false;
-    }
-    cut::full(c & u)
 }

@@ -3,7 +3,7 @@ use fields::limits;
 use fields::refusals;
 ghost use mathlib.Core.Path.{_≡_};
 ghost use Prim.Native.Nat.{_+_, _*_, _≤_, _<_};
-ghost use lib.ListN.{length, getD};
+ghost use lib.ListN.{length};
 ghost use Rattle.bodies.specs.Bodies.{headVerdict, stationVerdict, ends, joined, trackVerdict, repeated, badStop, badTime, trainVerdict, timesVerdict, badPair, pairsVerdict, tableVerdict, badLength};
 
 // A head: last minute, safety time and room are in range.

@@ -8,9 +8,10 @@ use borrow.Author.Tests.{eqb-true, eqb-false, le-ltb, ltb-true, ltb-false}
 use lib.ListN.{length, take, getD}
 use lib.Dec.{eqb, ltb}
 use Rattle.rules.specs.Lists.{one, keep}
-use Rattle.simulation.specs.Lists.{Every, every-append, every-more, every-keep, every-one}
+use Rattle.lists.specs.Every.{Every, every-append, every-more, every-keep, every-one}
 use Rattle.rows.specs.Rows.{Row, rowsOf, rowsIn, rowAt, endedOf, sweptOf}
 use Rattle.rows.specs.Written.{rowsIn-more}
+use Rattle.rows.specs.Swept.{Closing, next-row}
 use Rattle.quiet.specs.Parts.{Sub, sub-trans}
 use Rattle.asking.specs.Ask.{dueOf}
 use Rattle.waiting.specs.Calm.{waitsOf, spot, spotOf, Settled, Told}
@@ -42,7 +43,7 @@ module _ (t s c : ℕ) (N : List ℕ) (F : Flagged N) where
       go true e = (all .grows, all .flagged, all .asked, λ z. all .told)
       go false e = (grows-same N, F, λ i. refl, λ z. absurd (false≢true z))
 
-pub leaves-more : (t i : ℕ) (l N M : List ℕ) → i * 2 + 2 ≤ length l → Leaves t (rowsIn i l) N M
+leaves-more : (t i : ℕ) (l N M : List ℕ) → i * 2 + 2 ≤ length l → Leaves t (rowsIn i l) N M
     → Leaves t (rowsIn (i + 1) l) N (leftOf t (getD l (i * 2) 0) (getD l (i * 2 + 1) 0) M)
 leaves-more t i l N M long h =
     let one = left-one t (getD l (i * 2) 0) (getD l (i * 2 + 1) 0) M (h .flagged) in
@@ -56,6 +57,23 @@ leaves-more t i l N M long h =
           (every-more (Known t M) (Known t P) (λ r k e j m. told-keeps (spot j (r .state / 4096 % 128)) (r .cover) (one .0) (one .2) (k e j m)) (rowsIn i l) (h .known))
           (one .3, tt));
     }
+
+-- the row that is read while the list closes up: it goes, or it stays
+module _ {t i : ℕ} {was : List ℕ} {j : ℕ} {rows : List ℕ} (h : Closing t i was j rows) (N M : List ℕ) (long : i * 2 + 2 ≤ length was) (before : Leaves t (rowsIn i was) N M) where
+  left-here : leftOf t (getD rows (i * 2) 0) (getD rows (i * 2 + 1) 0) M ≡ leftOf t (getD was (i * 2) 0) (getD was (i * 2 + 1) 0) M
+  left-here = ap (λ (r : Row). leftOf t (r .state) (r .cover) M) (next-row h)
+
+  pub leaves-gone : endedOf t (getD rows (i * 2) 0) ≡ true → Leaves t (rowsIn (i + 1) was) N (toldAll 8 M (getD rows (i * 2) 0 / 4096 % 128) (getD rows (i * 2 + 1) 0))
+  unfolding leftOf
+  leaves-gone e =
+      subst (Leaves t (rowsIn (i + 1) was) N) (sym left-here ∙ ap (λ (b : Bool). cond b (toldAll 8 M (getD rows (i * 2) 0 / 4096 % 128) (getD rows (i * 2 + 1) 0)) M) e)
+      (leaves-more t i was N M long before)
+
+  pub leaves-kept : endedOf t (getD rows (i * 2) 0) ≡ false → Leaves t (rowsIn (i + 1) was) N M
+  unfolding leftOf
+  leaves-kept e =
+      subst (Leaves t (rowsIn (i + 1) was) N) (sym left-here ∙ ap (λ (b : Bool). cond b (toldAll 8 M (getD rows (i * 2) 0 / 4096 % 128) (getD rows (i * 2 + 1) 0)) M) e)
+      (leaves-more t i was N M long before)
 
 -- ---- rows that are due
 

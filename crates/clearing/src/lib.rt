@@ -3,37 +3,33 @@ ghost use mathlib.Core.Path.{_≡_};
 ghost use mathlib.Core.Bool.{false};
 ghost use Prim.Native.Nat.{_+_, _*_, _/_, _≤_, _<_};
 ghost use lib.ListN.{length, take};
-ghost use Rattle.simulation.specs.Lists.{Every};
-ghost use Rattle.rows.specs.Rows.{rowsOf, rowsIn, endedOf};
+ghost use Rattle.lists.specs.Every.{Every};
+ghost use Rattle.rows.specs.Rows.{rowsOf, rowsIn, endedOf, sweptOf};
 ghost use Rattle.waiting.specs.Notes.{Flagged};
 ghost use Rattle.visiting.specs.Visit.{Kept, Ways, Noted};
-ghost use Rattle.clearing.specs.Clear.{leftOf, markedOf, Leaves, Marks, Due, Cleared, Enrols};
+ghost use Rattle.clearing.specs.Clear.{markedOf, Leaves, Marks, Due, Cleared, Enrols};
 
-// If s is the state of a block that ended before t, the pairs of its place are told of its cover c.
-pub fn leave(notes: &mut [u64], s: u64, c: u64, t: u64) -> usize
-    requires { ⌜ length (now notes) ≡ 6272 ⌝ }
-    ensures { λ r. ⌜ now (notes .exit) ≡ leftOf t s c (now (notes .entry)) ⌝ }
-{
-    if !rows::ended(s, t) {
-        return 0;
-    }
-    let e = s / 4096 % 128;
-    waiting::tell_all(notes, e as usize, c)
-}
-
-// The pairs of the places that blocks leave among the first n rows are told.
-pub fn leaving(rows: &[u64], n: usize, notes: &mut [u64], t: u64) -> usize
+// The blocks that end before t go from the first n rows, which close up, and the pairs of their places are told. Returns how many rows are left.
+pub fn sweep(rows: &mut [u64], n: usize, notes: &mut [u64], t: u64) -> usize
     requires { ⌜ (n * 2 ≤ length (now rows)) × Flagged (now notes) ⌝ }
-    ensures { λ r. ⌜ Leaves t (rowsIn n (now (rows .entry))) (now (notes .entry)) (now (notes .exit)) ⌝ }
+    ensures { λ r. ⌜ (r ≤ n) × (rowsIn r (now (rows .exit)) ≡ sweptOf t (rowsIn n (now (rows .entry)))) × Leaves t (rowsIn n (now (rows .entry))) (now (notes .entry)) (now (notes .exit)) ⌝ }
 {
     let mut i = 0;
+    let mut j = 0;
     while i < n {
         let s = rows[i * 2];
         let c = rows[i * 2 + 1];
-        let _x = leave(notes, s, c, t);
+        if rows::ended(s, t) {
+            let e = s / 4096 % 128;
+            let _x = waiting::tell_all(notes, e as usize, c);
+        } else {
+            rows[j * 2] = s;
+            rows[j * 2 + 1] = c;
+            j += 1;
+        }
         i += 1;
     }
-    i
+    j
 }
 
 // If s is a standing state that is due at t, its rows with covers among c wait now.
@@ -70,9 +66,7 @@ pub fn clear(rows: &mut [u64], w: usize, notes: &mut [u64], tables: &[u64], t: u
     if notes[4223 + t as usize] == 0 {
         return w;
     }
-    let n = w / 2;
-    let _x = leaving(rows, n, notes, t);
-    let m = rows::sweep(rows, n, t);
+    let m = sweep(rows, w / 2, notes, t);
     m * 2
 }
 

@@ -1,7 +1,6 @@
 -- Places and marks as numbers, as the runs hold them: a place in 7 bits, a mark in one word. Assumes nothing: these are definitions.
-use mathlib.Core.Bool.{Bool, true, false, cond}
-use mathlib.Core.List.{List, [], _∷_}
-use Prim.Native.Nat.{ℕ, zero, suc, _+_, _-_, _*_, _/_, _%_}
+use mathlib.Core.Bool.{cond}
+use Prim.Native.Nat.{ℕ, _+_, _-_, _*_, _/_, _%_}
 use lib.Dec.{ltb, eqb}
 use Rattle.rules.specs.Lists.{tick}
 use Rattle.rules.specs.Turns.{Place, Mark}

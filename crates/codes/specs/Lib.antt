@@ -1,2 +1,4 @@
 pub mod Codes
 pub mod Tables
+pub mod Lookups
+pub mod Places

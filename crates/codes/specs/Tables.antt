@@ -1,12 +1,12 @@
 -- What the runs look up of a case, as one list of words. Assumes nothing: these are definitions.
-use mathlib.Core.Bool.{Bool, true, false, cond}
+use mathlib.Core.Bool.{cond}
 use mathlib.Core.List.{List, [], _∷_, _++_, map}
-use Prim.Native.Nat.{ℕ, zero, suc, _+_, _-_, _*_}
+use Prim.Native.Nat.{ℕ, _+_}
 use lib.ListN.{length, getD}
 use lib.Dec.{ltb}
 use Rattle.rules.specs.Lists.{each, fold, below}
-use Rattle.rules.specs.Files.{Head, Stop, Train, Pair, Case, lastOf}
-use Rattle.rules.specs.Turns.{Place, Leg, trainAt, way, ahead, plannedOn, lastStation, capacity}
+use Rattle.rules.specs.Files.{Case}
+use Rattle.rules.specs.Turns.{Leg, trainAt, way, ahead, plannedOn, lastStation, capacity}
 use Rattle.rules.specs.Single.{pairAt, firstArrival}
 use Rattle.rules.specs.Figures.{plan}
 use Rattle.codes.specs.Codes.{codeOf, placeOf, nowhere}
@@ -65,7 +65,3 @@ tables C =
     ++ map (λ e. capacity C (placeOf e)) (below 64)
     ++ each (λ k. map (nextCode C k) (below 128)) (below 8)
     ++ each (λ k. map (stayOn C k) (below 128)) (below 8)
-
--- 2,288 words in all
-abbrev pub tableWords : ℕ
-tableWords = 2288

@@ -1,28 +1,24 @@
 -- Demands 2 and 3 about the definitions, for every case that the reading accepts from bytes. Each is in the words of the demand, and its proof cites
 -- the crates below: `sound` (what the reading makes true), `simulation` (what a choice sees), `weights` (sums over choices). Assumes nothing.
 use mathlib.Core.Path.{_≡_}
-use mathlib.Core.Bool.{Bool, true, _||_, cond}
+use mathlib.Core.Bool.{_||_, cond}
 use mathlib.Core.List.{List}
 use Prim.Native.Nat.{ℕ, suc, _*_, _≤_, _<_}
 use Rattle.rules.specs.Lists.{keep, tick, sum, any, below}
-use Rattle.rules.specs.Refusals.{Result}
 use Rattle.rules.specs.Refusals.Result.{answer}
-use Rattle.rules.specs.Files.{Head, Train, Case, files}
-use Rattle.rules.specs.Turns.{Place, Mark, capacity, State}
-use Rattle.rules.specs.Single.{single}
-use Rattle.rules.specs.Joint.{covers, choices, weightOf, weight, total, Entry, firstList, jointRules, joint, weightAt}
+use Rattle.rules.specs.Files.{Case, files}
+use Rattle.rules.specs.Joint.{covers, choices, weightOf, weight, total, firstList, jointRules, joint, weightAt}
 use Rattle.rules.specs.Listing.{notArrived}
 use Rattle.sound.specs.Facts.{Sound}
 use Rattle.sound.specs.Accepted.{accepted-sound}
-use Rattle.simulation.specs.Lists.{Every}
-use Rattle.simulation.specs.View.{Choice, view}
-use Rattle.simulation.specs.Simulation.{Sets, joint-sets, Simulates, simulation, Kept, single-kept}
-use Rattle.weights.specs.All.{All, all-same}
+use Rattle.lists.specs.Every.{Every, every-more}
+use Rattle.simulation.specs.View.{Choice}
+use Rattle.simulation.specs.Serving.{Proper}
+use Rattle.simulation.specs.Simulation.{Sets, joint-proper, joint-sets, Simulates, simulation}
 use Rattle.weights.specs.Choices.{weight-covers, weight-all}
-use Rattle.weights.specs.Arrivals.{arrivesIn, arrivesNever, Seen, arrived-weight, arrived-later, notArrived-weight}
-use Rattle.weights.specs.Cutting.{joint-part}
-use Rattle.weights.specs.Trace.{runLists}
-use Rattle.weights.specs.Longest.{passes}
+use Rattle.weights.specs.Arrivals.{arrivesIn, arrivesNever, Seen, joint-seen, arrived-weight, arrived-later, notArrived-weight}
+use Rattle.trace.specs.Trace.{runLists}
+use Rattle.trace.specs.Longest.{passes}
 use Rattle.weights.specs.Room.{met-askers, met-minutes}
 
 module _ (cs bk : List ℕ) (C : Case) (accepted : files cs bk ≡ answer C) where
@@ -44,11 +40,7 @@ module _ (cs bk : List ℕ) (C : Case) (accepted : files cs bk ≡ answer C) whe
   -- ---- demand 2
 
   pub seen : (m : ℕ) → Seen C m
-  unfolding view
-  seen m = record {
-    seen = λ x choice. simulation C case-sound x choice m .arrived;
-    once = λ x choice k. single-kept C case-sound x choice m .arrives-once k;
-  }
+  seen m = joint-seen C case-sound m
 
   -- The weight that the joint run has added for train k in minute t, t ≤ m ≤ T, is the sum of the weights of exactly those choices whose single run brings
   -- the train to its last station in that minute.
@@ -65,8 +57,10 @@ module _ (cs bk : List ℕ) (C : Case) (accepted : files cs bk ≡ answer C) whe
   demand-2-not-arrived k = notArrived-weight C (seen (C .head .lastMinute)) k case-sound
 
   -- an entry's weight is the sum of the weights of the choices it covers
-  pub entries-weigh : (m : ℕ) → All (λ r. weight C (r .cover) ≡ sum (λ x. tick (covers (r .cover) x) * weightOf C x) (choices C)) (joint C m .list)
-  entries-weigh m = all-same (λ r part. weight-covers C (r .cover) part) (joint-part C m .list)
+  pub entries-weigh : (m : ℕ) → Every (λ r. weight C (r .cover) ≡ sum (λ x. tick (covers (r .cover) x) * weightOf C x) (choices C)) (joint C m .list)
+  entries-weigh m =
+      every-more (Proper C) (λ r. weight C (r .cover) ≡ sum (λ x. tick (covers (r .cover) x) * weightOf C x) (choices C))
+      (λ r part. weight-covers C (r .cover) part) (joint C m .list) (joint-proper C case-sound m .0)
 
   -- all choices together weigh 100^n
   pub choices-weigh : sum (weightOf C) (choices C) ≡ total C

@@ -9,9 +9,9 @@ use lib.ListN.{length, getD, take, drop, replicate, drop-of-length-le}
 use lib.Seq.{length-take-le}
 use lib.Dec.{leb}
 use borrow.Author.Tests.{leb-false}
-use Rattle.rules.specs.Refusals.{Refusal, Result, then, unless}
+use Rattle.rules.specs.Refusals.{Result, then, unless}
 use Rattle.rules.specs.Refusals.Result.{refused, answer}
-use Rattle.rules.specs.Files.{Head, Case, files}
+use Rattle.rules.specs.Files.{Case, files}
 use Rattle.rules.specs.Turns.{State}
 use Rattle.rules.specs.Joint.{Entry, joint, total}
 use Rattle.rules.specs.Listing.{listing}
@@ -31,7 +31,7 @@ use Rattle.figures.specs.Answers.{figuresAnswer, Holds}
 use Rattle.desk.specs.declared.Answer.{Answer}
 use Rattle.desk.specs.Answers.{answered}
 use Rattle.desk.specs.Steps.{Printable, Printed, Measurable, Measured}
-use Rattle.desk.specs.Tables.{table-plan}
+use Rattle.codes.specs.Lookups.{table-plan}
 
 -- ---- an answered run over the whole window
 
@@ -154,7 +154,7 @@ module _ {cs bk : List ℕ} {k : ℕ} {u : Run} (o : OfTrain cs bk k u) (tb : Li
   unfolding total
   words-hold = record {
     weights = λ t l. h .words k t (omega (arith, o .known, sound-case .few-trains)) (omega (arith, sound-case .in-window));
-    planned = ap (λ (l : List ℕ). getD l (24 + k) 0) looked ∙ table-plan (u .of) k (omega (arith, o .known, sound-case .few-trains)) (o .known);
+    planned = ap (λ (l : List ℕ). getD l (24 + k) 0) looked ∙ table-plan (u .of) k (o .known) (omega (arith, o .known, sound-case .few-trains));
     window = last-looked (o .whole) tb looked;
     whole = ap (λ (i : ℕ). 100 ^ i) (trains-looked (o .whole) tb looked);
   }

@@ -7,9 +7,8 @@ use Prim.Native.Nat.{ℕ, _≤_, _<_}
 use native.Mathlib.Omega.{arith}
 use lib.ListN.{length}
 use borrow.Author.Tests.{lt-ltb, le-ltb}
-use Rattle.rules.specs.Refusals.{Refusal, Result, refuse}
+use Rattle.rules.specs.Refusals.{Result, refuse}
 use Rattle.rules.specs.Refusals.Result.{refused, answer}
-use Rattle.rules.specs.Turns.{State}
 use Rattle.rules.specs.Figures as rules
 use Rattle.rules.specs.Calls.{Run, stoppedRun, wholeRun, trainRun, textOf, filled, Memory, short, Lent, lent, call, runCall, listingCall, figuresCall}
 use Rattle.codes.specs.Tables as codes

@@ -11,8 +11,7 @@ use borrow.Author.Tests.{ltb-false}
 use Rattle.rules.specs.Refusals.{Refusal, Rule, _when_, verdict, Result, refuse, then, unless}
 use Rattle.rules.specs.Refusals.Fault.{noTrain, stopTooLate}
 use Rattle.rules.specs.Refusals.Result.{refused, answer}
-use Rattle.rules.specs.Files.{Head, Case, files, word}
-use Rattle.rules.specs.Turns.{State}
+use Rattle.rules.specs.Files.{Case, files, word}
 use Rattle.rules.specs.Joint.{joint}
 use Rattle.rules.specs.Calls.{afterArguments, Run, runTo, noSuchTrain, stoppedRun, wholeRun, trainRun, filled}
 use Rattle.sound.specs.Places.{Told, files-told}

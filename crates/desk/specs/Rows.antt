@@ -8,31 +8,32 @@ use native.Mathlib.Omega.{arith}
 use lib.ListN.{length, getD, take}
 use lib.Seq.{take-append-le}
 use Rattle.rules.specs.Lists.{each, any, below}
-use Rattle.rules.specs.Files.{Head, Case, files}
-use Rattle.rules.specs.Turns.{State, Mark, Place}
+use Rattle.rules.specs.Files.{Case, files}
+use Rattle.rules.specs.Turns.{State, Place}
 use Rattle.rules.specs.Turns.Place.{outside, station, track, gone}
 use Rattle.rules.specs.Joint.{Cover, Entry, firstList, joint}
 use Rattle.sound.specs.Facts.{Sound}
-use Rattle.simulation.specs.Lists.{Every}
+use Rattle.lists.specs.Every.{Every}
 use Rattle.simulation.specs.Simulation.{Sets, joint-sets}
-use Rattle.weights.specs.Longest.{passes}
+use Rattle.trace.specs.Longest.{passes}
 use Rattle.weights.specs.Room.{met-minutes, list-fits}
 use Rattle.passes.specs.Joint.{joint-passes}
 use Rattle.passes.specs.Bounds.{ByteDelays, Bounded, bounded-train, bounded-minute, joint-bounded}
 use Rattle.codes.specs.Codes.{stateOf}
 use Rattle.cut.specs.Packed as cut
 use Rattle.rows.specs.Rows as rows
-use Rattle.entries.specs.Coded.{Coded, bounded-coded}
+use Rattle.codes.specs.Places.{Coded}
+use Rattle.entries.specs.Coded.{bounded-coded}
 use Rattle.entries.specs.Encoded as encoded
 use Rattle.entries.specs.Answer as joints
-use Rattle.images.specs.Rows.{packed, rowOf, SmallSet, SmallPlace, SmallMark, SmallEntry}
+use Rattle.images.specs.Rows.{packed, rowOf, SmallPlace, SmallEntry}
 use Rattle.rules.specs.Refusals.Result.{answer}
 use Rattle.sound.specs.Accepted.{accepted-sound}
 use Rattle.codes.specs.Tables.{tables}
 use Rattle.lookup.specs.declared.Sizes.{Sizes}
 use Rattle.plan.specs.Small.{Bytes}
 use Rattle.weigh.specs.Weigh.{Small}
-use Rattle.entries.specs.Lookups.{table-room}
+use Rattle.codes.specs.Lookups.{table-room}
 use Rattle.desk.specs.Single.{byte-delays}
 use Rattle.visiting.specs.Visit.{Ways}
 use Rattle.entries.specs.Onward.{tables-ways}

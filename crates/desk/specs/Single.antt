@@ -9,13 +9,14 @@ use native.Mathlib.Omega.{arith}
 use lib.ListN.{length, getD}
 use lib.Dec.{leb}
 use borrow.Author.Tests.{leb-false}
-use Rattle.rules.specs.Refusals.{Refusal, _when_, Result, then}
+use Rattle.rules.specs.Refusals.{_when_, Result, then}
 use Rattle.rules.specs.Refusals.Fault.{wrongChoice, noTrain}
 use Rattle.rules.specs.Refusals.Result.{refused, answer}
-use Rattle.rules.specs.Files.{Pair, Case, files}
+use Rattle.rules.specs.Files.{Case, files}
 use Rattle.rules.specs.Single.{arrival}
 use Rattle.rules.specs.Calls.{choiceBroken, noSuchTrain, singleRun}
-use Rattle.sound.specs.Facts.{Every, Sound}
+use Rattle.lists.specs.Every.{Every}
+use Rattle.sound.specs.Facts.{Sound}
 use Rattle.sound.specs.Accepted.{accepted-sound}
 use Rattle.codes.specs.Tables.{tables}
 use Rattle.passes.specs.Bounds.{ByteDelays}
@@ -27,7 +28,7 @@ use Rattle.arguments.specs.Arguments.{forSingle}
 use Rattle.plan.specs.Small.{Bytes, files-small}
 use Rattle.single.specs.Words.{Small}
 use Rattle.single.specs.Runs.{minuteNumber, Arrives}
-use Rattle.single.specs.Low.{tables-small, tables-last}
+use Rattle.single.specs.Low.{words-small, tables-last}
 use Rattle.desk.specs.declared.Answer.{Answer}
 use Rattle.desk.specs.Answers.{answered, minuteAnswer, singleAnswer}
 use Rattle.desk.specs.Steps.{filesAnswer, Tells}
@@ -112,7 +113,7 @@ module _ (cs bk x : List ℕ) (k : ℕ) where
       single-small p q =
           let sound : Sound (ready .of) = accepted-sound cs bk (ready .of) (ready .accepted) in
           let bytes : ByteDelays (ready .of) = byte-delays cs bk (ready .of) p q (ready .accepted) in (
-            λ i. subst (λ (l : List ℕ). getD l i 0 < 4294967296) (sym looked) (tables-small (ready .of) sound bytes i),
+            λ i. subst (λ (l : List ℕ). getD l i 0 < 4294967296) (sym looked) (words-small (ready .of) sound bytes i),
             omega (arith, ready .chosen .known, sound .few-trains),
             subst (λ (l : List ℕ). getD l 1 0 < 65535) (sym looked) (tables-last (ready .of) sound bytes),
           )

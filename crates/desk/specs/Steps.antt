@@ -4,10 +4,9 @@ use mathlib.Core.List.{List, []}
 use Prim.Native.Nat.{ℕ, _+_, _^_, _≤_, _<_}
 use lib.ListN.{length, getD}
 use Rattle.rules.specs.Lists.{each}
-use Rattle.rules.specs.Refusals.{Refusal, Result, refuse, then}
+use Rattle.rules.specs.Refusals.{Result, refuse, then}
 use Rattle.rules.specs.Refusals.Result.{refused, answer}
-use Rattle.rules.specs.Files.{Head, Case, files}
-use Rattle.rules.specs.Turns.{State}
+use Rattle.rules.specs.Files.{Case, files}
 use Rattle.rules.specs.Joint.{Entry, joint}
 use Rattle.rules.specs.Calls.{Run, runTo, rowImage, weightsImage, filled}
 use Rattle.rules.specs.Listing.{listing}

@@ -1,5 +1,5 @@
 -- What the joint run asks of the tables of a sound case: words in range, and weights of which those of any set of delays are at most 100.
--- The words of a train are looked up one by one; a part of a train's weights is at most their sum. Assumes nothing.
+-- A part of a train's weights is at most their sum. Assumes nothing.
 use mathlib.Core.Path.{_≡_, refl, ap, _∙_}
 use mathlib.Core.Bool.{Bool, true, false, cond}
 use mathlib.Core.List.{List, [], _∷_}
@@ -8,62 +8,20 @@ use native.Mathlib.Decide.{decLt}
 use native.Mathlib.Omega.{arith}
 use lib.ListN.{length, getD, List·getD-eq-default}
 use lib.Dec.{ltb, eqb}
-use borrow.Author.Tests.{lt-ltb, ltb-true}
+use borrow.Author.Tests.{ltb-true}
 use Rattle.rules.specs.Lists.{sum, span, below}
-use Rattle.rules.specs.Files.{Head, Pair, Case}
+use Rattle.rules.specs.Files.{Pair, Case}
 use Rattle.rules.specs.Single.{pairAt}
-use Rattle.rules.specs.Figures.{plan}
 use Rattle.sound.specs.Facts.{Sound}
-use Rattle.sound.specs.Every.{every-anywhere}
-use Rattle.weights.specs.Sums.{sum-zero, sum-span}
+use Rattle.lists.specs.Every.{Every, every-anywhere}
+use Rattle.lists.specs.Sums.{sum-zero}
+use Rattle.lists.specs.Below.{sum-span-suc}
 use Rattle.codes.specs.Tables.{order, tables}
 use Rattle.passes.specs.Bounds.{ByteDelays}
 use Rattle.passes.specs.Order.{order-known}
-use Rattle.simulation.specs.Lists as simulated
 use Rattle.single.specs.Low.{Low, tables-low}
 use Rattle.weigh.specs.Weigh.{setWeight, Small}
-use Rattle.entries.specs.Lookups.{table-trains, table-safety, table-weight}
-
--- ---- the words of eight trains
-
-eight : (P : ℕ → Type 0) → P 0 → P 1 → P 2 → P 3 → P 4 → P 5 → P 6 → P 7 → (k : ℕ) → k < 8 → P k
-eight P a b c d e f g h zero l = a
-eight P a b c d e f g h (suc zero) l = b
-eight P a b c d e f g h (suc (suc zero)) l = c
-eight P a b c d e f g h (suc (suc (suc zero))) l = d
-eight P a b c d e f g h (suc (suc (suc (suc zero)))) l = e
-eight P a b c d e f g h (suc (suc (suc (suc (suc zero))))) l = f
-eight P a b c d e f g h (suc (suc (suc (suc (suc (suc zero)))))) l = g
-eight P a b c d e f g h (suc (suc (suc (suc (suc (suc (suc zero))))))) l = h
-eight P a b c d e f g h (suc (suc (suc (suc (suc (suc (suc (suc k)))))))) l = absurd (omega arith)
-
--- a word of a train, 0 for one that is not there
-abbrev wordFor : Case → (ℕ → ℕ) → ℕ → ℕ
-wordFor C f k = cond (ltb k (length (C .trains))) (f k) 0
-
-word-few : (C : Case) (f : ℕ → ℕ) (n k : ℕ) → (k < length (C .trains) → f k ≤ n) → wordFor C f k ≤ n
-word-few C f n k h = go (ltb k (length (C .trains))) refl
-  where
-    go : (b : Bool) → ltb k (length (C .trains)) ≡ b → cond b (f k) 0 ≤ n
-    go true q = h (ltb-true k (length (C .trains)) q)
-    go false q = omega arith
-
-module _ (C : Case) where
-  order-at : (k : ℕ) → k < 8 → getD (tables C) (8 + k) 0 ≡ wordFor C (λ j. getD (order C) j 0) k
-  unfolding tables
-  order-at = eight (λ k. getD (tables C) (8 + k) 0 ≡ wordFor C (λ j. getD (order C) j 0) k) refl refl refl refl refl refl refl refl
-
-  plan-at : (k : ℕ) → k < 8 → getD (tables C) (24 + k) 0 ≡ wordFor C (plan C) k
-  unfolding tables
-  plan-at = eight (λ k. getD (tables C) (24 + k) 0 ≡ wordFor C (plan C) k) refl refl refl refl refl refl refl refl
-
-  delays-at : (k : ℕ) → k < 8 → getD (tables C) (40 + k) 0 ≡ wordFor C (λ j. length (getD (C .tables) j [])) k
-  unfolding tables
-  delays-at = eight (λ k. getD (tables C) (40 + k) 0 ≡ wordFor C (λ j. length (getD (C .tables) j [])) k) refl refl refl refl refl refl refl refl
-
-  -- the planned arrival of a train of the case
-  pub table-plan : (k : ℕ) → k < 8 → k < length (C .trains) → getD (tables C) (24 + k) 0 ≡ plan C k
-  table-plan k l h = plan-at k l ∙ ap (λ (b : Bool). cond b (plan C k) 0) (lt-ltb k (length (C .trains)) h)
+use Rattle.codes.specs.Lookups.{wordFor, words-order, words-delays, table-trains, table-safety, table-weight}
 
 -- ---- weights of a set
 
@@ -91,9 +49,16 @@ noPair = record { delay = 0; weight = 0 }
 places-most : (ps : List Pair) (n : ℕ) → sum (λ d. getD ps d noPair .weight) (below n) ≤ sum (λ p. p .weight) ps
 places-most [] n = omega (arith, sum-zero (below n))
 places-most (p ∷ ps) zero = omega arith
-places-most (p ∷ ps) (suc n) = omega (arith, sum-span (λ d. getD (p ∷ ps) d noPair .weight) n 0, places-most ps n)
+places-most (p ∷ ps) (suc n) = omega (arith, sum-span-suc (λ d. getD (p ∷ ps) d noPair .weight) n 0, places-most ps n)
 
 module _ (C : Case) (sound : Sound C) (bytes : ByteDelays C) where
+  word-few : (f : ℕ → ℕ) (n k : ℕ) → (k < length (C .trains) → f k ≤ n) → wordFor C f k ≤ n
+  word-few f n k h = go (ltb k (length (C .trains))) refl
+    where
+      go : (b : Bool) → ltb k (length (C .trains)) ≡ b → cond b (f k) 0 ≤ n
+      go true q = h (ltb-true k (length (C .trains)) q)
+      go false q = omega arith
+
   pairs-weigh : (k : ℕ) → sum (λ p. p .weight) (getD (C .tables) k []) ≤ 100
   pairs-weigh k = go (decLt k (length (C .trains)))
     where
@@ -104,20 +69,20 @@ module _ (C : Case) (sound : Sound C) (bytes : ByteDelays C) where
           omega (arith, ap (λ (ps : List Pair). sum (λ p. p .weight) ps) none)
 
   order-few : (k : ℕ) → getD (order C) k 0 ≤ 6
-  order-few k = simulated-at (order C) (order-known C) k
+  order-few k = known-at (order C) (order-known C) k
     where
-      simulated-at : (l : List ℕ) → simulated.Every (λ j. j < length (C .trains)) l → (i : ℕ) → getD l i 0 ≤ 6
-      simulated-at [] h i = omega arith
-      simulated-at (j ∷ l) h zero = omega (arith, h .0, sound .few-trains)
-      simulated-at (j ∷ l) h (suc i) = simulated-at l (h .1) i
+      known-at : (l : List ℕ) → Every (λ j. j < length (C .trains)) l → (i : ℕ) → getD l i 0 ≤ 6
+      known-at [] h i = omega arith
+      known-at (j ∷ l) h zero = omega (arith, h .0, sound .few-trains)
+      known-at (j ∷ l) h (suc i) = known-at l (h .1) i
 
   pub tables-small : Small (tables C)
   tables-small = record {
     words = λ i. every-anywhere Low (tables C) 0 (omega arith) (tables-low C sound bytes) i;
     trains = omega (arith, table-trains C, sound .few-trains);
     safety = omega (arith, table-safety C, sound .head-sound .short-safety);
-    order = λ i l. omega (arith, order-at C i l, word-few C (λ j. getD (order C) j 0) 6 i (λ h. order-few i));
-    delays = λ k l. omega (arith, delays-at C k l, word-few C (λ j. length (getD (C .tables) j [])) 8 k (λ h. sound .few-pairs k h));
+    order = λ i l. omega (arith, words-order C i l, word-few (λ j. getD (order C) j 0) 6 i (λ h. order-few i));
+    delays = λ k l. omega (arith, words-delays C k l, word-few (λ j. length (getD (C .tables) j [])) 8 k (λ h. sound .few-pairs k h));
     weights =
         λ j x l. omega (
           arith,

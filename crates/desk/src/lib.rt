@@ -7,8 +7,8 @@ use lookup::Files;
 use lookup::Sizes;
 ghost use mathlib.Core.Path.{_≡_};
 ghost use mathlib.Core.List.{[]};
-ghost use Prim.Native.Nat.{_+_, _*_, _^_, _≤_, _<_};
-ghost use lib.ListN.{length, getD};
+ghost use Prim.Native.Nat.{_+_, _*_, _≤_, _<_};
+ghost use lib.ListN.{length, getD, replicate};
 ghost use Rattle.rules.specs.Refusals.Result.{answer};
 ghost use Rattle.rules.specs.Files as rulesFiles;
 ghost use Rattle.rules.specs.Calls.{filled, singleRun, runCall, listingCall, figuresCall};
@@ -100,7 +100,7 @@ fn fill(list: &[u64], n: usize, trains: usize, ws: &[u64], rows: &mut [u8], weig
 
 // The joint run on the tables, with room for its work: the number of words of its rows, or their length for refusal 12.
 fn run_on(tables: &[u64], rows: &mut [u64], ws: &mut [u64], stop: u64) -> usize
-    requires { ⌜ (length (now rows) ≡ getD (now tables) 3 0 * 2 + 2) × (length (now rows) ≤ 2050) × (stop < 720) × Small (now tables) × Ways (now tables) ⌝ }
+    requires { ⌜ (length (now rows) ≡ getD (now tables) 3 0 * 2 + 2) × (length (now rows) ≤ 2050) × (stop < 720) × Small (now tables) × Ways (now tables) × (now ws ≡ replicate 5760 0) ⌝ }
     ensures { λ r. ⌜ Answers (now (tables .entry)) stop (length (now (ws .entry))) r (now (rows .exit)) (now (ws .exit)) ⌝ }
 {
     let mut tmp = [0u64; 2050];
@@ -132,7 +132,7 @@ fn run_to<'a>(
     ws: &mut [u64],
 ) -> usize
     requires { ⌜ Begins (now case) (now book) stop s ⌝ }
-    requires { ⌜ (length (now tables) ≡ 2288) × (length (now list) ≡ 2050) × (length (now ws) ≡ 5760) ⌝ }
+    requires { ⌜ (length (now tables) ≡ 2288) × (length (now list) ≡ 2050) × (length (now ws) ≡ 5760) × (now ws ≡ replicate 5760 0) ⌝ }
     ensures { λ r. ⌜ ((C : rulesFiles.Case) → rulesFiles.files (now (case .entry)) (now (book .entry)) ≡ answer C → Ran C stop r (now (list .exit)) (now (ws .exit)) (now (tables .exit))) ⌝ }
 {
     plan::fill(case, book, s, tables);
@@ -157,7 +157,7 @@ fn lay<'a>(
     weights: &mut [u8],
 ) -> Answer
     requires { ⌜ Start (now case) (now book) stop f ⌝ }
-    requires { ⌜ (length (now tables) ≡ 2288) × (length (now ws) ≡ 5760) × (16384 ≤ length (now rows)) × (40320 ≤ length (now weights)) ⌝ }
+    requires { ⌜ (length (now tables) ≡ 2288) × (length (now ws) ≡ 5760) × (16384 ≤ length (now rows)) × (40320 ≤ length (now weights)) × (now ws ≡ replicate 5760 0) ⌝ }
     ensures { λ r. ⌜ Laid (runOf (now (case .entry)) (now (book .entry)) stop f) (now (rows .entry)) (now (weights .entry)) r (now (tables .exit)) (now (ws .exit)) (now (rows .exit)) (now (weights .exit)) ⌝ }
 {
     let Files::Sound(s) = f else {
@@ -185,17 +185,6 @@ fn print(tables: &[u64], ws: &[u64], text: &mut [u8]) -> Answer
     answered(length as u64)
 }
 
-// All choices of n trains together weigh 100^n.
-fn whole(n: u64) -> u64
-    requires { ⌜ n ≤ 7 ⌝ }
-    ensures { λ r. ⌜ r ≡ 100 ^ n ⌝ }
-{
-    if n == 0 {
-        return 1;
-    }
-    whole(n - 1) * 100
-}
-
 // The figures from the words of an answered run.
 fn measure(tables: &[u64], ws: &[u64], train: u64, limit: u16) -> Figures
     requires { ⌜ Measurable (now tables) (now ws) train ⌝ }
@@ -203,7 +192,8 @@ fn measure(tables: &[u64], ws: &[u64], train: u64, limit: u16) -> Figures
 {
     let plan = words::at(tables, 24 + train);
     let last = words::at(tables, 1);
-    let total = whole(words::at(tables, 0));
+    let trains = words::at(tables, 0) as usize;
+    let total = listing::whole_weight(trains);
     figures::figures_of(ws, train, plan, last, total, limit)
 }
 

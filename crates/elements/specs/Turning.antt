@@ -10,7 +10,7 @@ use lib.ListN.{length, take, getD, set, length-set}
 use lib.Seq.{getD-set-same, getD-set-other}
 use lib.Bits.{bitAnd, bitOr, and-zero-r}
 use lib.Dec.{eqb, ltb}
-use Rattle.simulation.specs.Lists.{every-more}
+use Rattle.lists.specs.Every.{every-more}
 use Rattle.cut.specs.Cut.{fullOf}
 use Rattle.rows.specs.Rows.{Row, rowsOf}
 use Rattle.quiet.specs.Parts.{sub-or-left, sub-or-right}
@@ -19,7 +19,7 @@ use Rattle.waiting.specs.Calm.{spot, spotOf, Still, Settled}
 use Rattle.waiting.specs.Calm.Still.{stirred, quiet}
 use Rattle.waiting.specs.Notes.{stirIn, askedIn, Flagged}
 use Rattle.visiting.specs.Visit.{Outcome, passOf, read, Kept, Noted, Seen}
-use Rattle.visiting.specs.Visiting.{unseen, pass-same}
+use Rattle.visiting.specs.Unmoved.{unseen, pass-same}
 use Rattle.elements.specs.Elements.{upTo, elementOf, elementsOf, unionOf, tidiedOf}
 
 -- ---- an element of which no pair is stirred

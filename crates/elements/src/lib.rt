@@ -28,11 +28,11 @@ pub fn trains(
     requires { ⌜ Kept w (now rows) × Flagged (now notes) × (w < length (now rows) → Noted (now tables) t (now notes) (rowsOf (take w (now rows)))) ⌝ }
     ensures { λ r. ⌜ Seen (now (tables .entry)) t (elementOf (now (tables .entry)) t e (getD (now (tables .entry)) 0 0) (read w (now (rows .entry)) (now (weights .entry)))) r (now (rows .exit)) (now (weights .exit)) (now (notes .exit)) ⌝ }
 {
-    let n = rows::at(tables, 0);
+    let n = words::at(tables, 0);
     let mut j = 0;
     let mut v = w;
     while j < n {
-        let k = rows::at(tables, 8 + j);
+        let k = words::at(tables, 8 + j);
         v = visiting::visit(
             rows,
             v,

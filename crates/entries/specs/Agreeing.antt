@@ -14,7 +14,7 @@ use Rattle.rules.specs.Files.{Case}
 use Rattle.rules.specs.Turns.{Place, lastStation, same, State}
 use Rattle.rules.specs.Joint.{Entry}
 use Rattle.sound.specs.Facts.{Sound}
-use Rattle.simulation.specs.Lists.{Every}
+use Rattle.lists.specs.Every.{Every}
 use Rattle.simulation.specs.Serving.{Proper}
 use Rattle.codes.specs.Codes.{placeOf}
 use Rattle.codes.specs.Tables.{order, tables}
@@ -31,7 +31,7 @@ use Rattle.entries.specs.Run.{clearedOf, minuteOf, minutesOf}
 use Rattle.visiting.specs.Visit.Outcome.{refused, stands}
 use Rattle.visiting.specs.Visiting.{guard-in, guard-out}
 use Rattle.opening.specs.Beginning.{below-more}
-use Rattle.entries.specs.Lookups.{table-order, table-trains, table-room}
+use Rattle.codes.specs.Lookups.{table-order, table-trains, table-room}
 use Rattle.entries.specs.Encoded.{rowOf, Good, swept-rows}
 use Rattle.entries.specs.Rowed.{Asker, asker-of, asked-none, passed-is}
 use Rattle.entries.specs.Weighed.{Weighs, arrived-is, weighs-pass}

@@ -11,9 +11,7 @@ use lib.Seq.{length-take-le}
 use Rattle.rules.specs.Files.{Case}
 use Rattle.rules.specs.Joint.{joint, weightAt}
 use Rattle.sound.specs.Facts.{Sound}
-use Rattle.simulation.specs.View as simulated
-use Rattle.simulation.specs.Simulation.{simulation, single-kept}
-use Rattle.weights.specs.Arrivals.{Seen, weightAt-most}
+use Rattle.weights.specs.Arrivals.{joint-seen, weightAt-most}
 use Rattle.weights.specs.Room.{total-most}
 use Rattle.codes.specs.Tables.{tables}
 use Rattle.passes.specs.Passes.{jointPasses}
@@ -51,16 +49,9 @@ Answers T stop size r rows weights =
 -- ---- agreement
 
 module _ (C : Case) (sound : Sound C) where
-  seen : (m : ℕ) → Seen C m
-  unfolding simulated.view
-  seen m = record {
-    seen = λ x choice. simulation C sound x choice m .arrived;
-    once = λ x choice k. single-kept C sound x choice m .arrives-once k;
-  }
-
   -- no weight wraps
   weight-fits : (m k t : ℕ) → weightAt C (joint C m .arrived) k t % 2 ^ 64 ≡ weightAt C (joint C m .arrived) k t
-  weight-fits m k t = mod-eq-of-lt (omega (arith, weightAt-most C sound m (seen m) k t, total-most C sound))
+  weight-fits m k t = mod-eq-of-lt (omega (arith, weightAt-most C sound m (joint-seen C sound m) k t, total-most C sound))
 
   agreed : (stop r : ℕ) (rows weights : List ℕ) (o : Outcome) → Kept r rows → read r rows weights ≡ o → Agrees C (joint C stop) o → Answer C stop r rows weights
   agreed stop r rows weights o kept e (over m) = go (decLt r (length rows))

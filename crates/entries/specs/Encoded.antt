@@ -10,15 +10,14 @@ use lib.Dec.{ltb, leb, eqb}
 use borrow.Author.Tests.{eq-eqb, ne-eqb, ltb-true, ltb-false}
 use Rattle.rules.specs.Lists.{one, keep, span, below, has}
 use Rattle.rules.specs.Files.{Case, Pair}
-use Rattle.rules.specs.Turns.{Place, same, Mark, Leg, ahead, headIs, asks, ended, capacity}
-use Rattle.rules.specs.Turns.Place.{outside, station, track, gone}
+use Rattle.rules.specs.Turns.{Place, same, Mark, ahead, headIs, asks, ended, capacity}
+use Rattle.rules.specs.Turns.Place.{gone}
 use Rattle.rules.specs.Joint.{Cover, whole, Entry, piece, carry, meets}
 use Rattle.sound.specs.Facts.{Sound}
-use Rattle.simulation.specs.Lists.{Every, every-each, every-one}
+use Rattle.lists.specs.Every.{Every, every-each, every-one}
 use Rattle.simulation.specs.Parts.{Part, Parts}
-use Rattle.simulation.specs.Places.{same-self}
 use Rattle.simulation.specs.Serving.{Proper}
-use Rattle.codes.specs.Codes.{codeOf, placeOf, stateOf, nowhere}
+use Rattle.codes.specs.Codes.{codeOf, placeOf, stateOf}
 use Rattle.codes.specs.Tables.{headCode, nextCode, tables}
 use Rattle.passes.specs.Passes.{asksFor, piecesAmong}
 use Rattle.passes.specs.Bounds.{Bounded, bounded-train}
@@ -31,8 +30,9 @@ use Rattle.cut.specs.Bridge.{carried-carry}
 use Rattle.rows.specs.Rows.{Row, row, meetsOf, metOf, sweptOf}
 use Rattle.asking.specs.declared.Job.{Job}
 use Rattle.asking.specs.Ask.{nextOf, asksOf, capOf, metFor}
-use Rattle.entries.specs.Coded.{Coded, known-coded, bounded-coded, coded-small, place-code, code-place, code-test, Fit, bounded-fit, state-train, state-place, state-way, ended-state, due-state}
-use Rattle.entries.specs.Lookups.{table-next, table-capacity}
+use Rattle.codes.specs.Places.{known-coded, coded-small, place-code, code-place, code-test, head-code, place-coded}
+use Rattle.entries.specs.Coded.{bounded-coded, Fit, bounded-fit, state-train, state-place, state-way, ended-state, due-state}
+use Rattle.codes.specs.Lookups.{table-next, table-capacity}
 
 -- an entry as a row
 unfoldable pub rowOf : Entry → Row
@@ -81,16 +81,6 @@ packable-every C sound (p ∷ l) h = packs.Every.cons (proper-packable C sound p
 
 -- ---- places
 
-pub place-coded : (e : ℕ) → e ≤ 64 → Coded (placeOf e)
-unfolding placeOf
-place-coded e h = go (ltb e 24) (ltb e 64) (eqb e 64) refl refl
-  where
-    go : (a b c : Bool) → ltb e 24 ≡ a → ltb e 64 ≡ b → Coded (cond a (station e) (cond b (track (e - 24)) (cond c gone outside)))
-    go true b c p q = ltb-true e 24 p
-    go false true c p q = omega (arith, ltb-true e 64 q, ltb-false e 24 p)
-    go false false true p q = tt
-    go false false false p q = tt
-
 gone-code : placeOf 64 ≡ gone
 unfolding placeOf
 gone-code = refl
@@ -98,18 +88,14 @@ gone-code = refl
 gone-test : (e : ℕ) → e ≤ 64 → same (placeOf e) gone ≡ eqb e 64
 gone-test e h =
     ap (same (placeOf e)) (sym gone-code)
-    ∙ sym (code-test (placeOf e) 64 (place-coded e h) (omega arith))
-    ∙ ap (λ (c : ℕ). eqb c 64) (code-place e h)
+    ∙ sym (code-test (placeOf e) 64 (place-coded e) (omega arith))
+    ∙ ap (λ (c : ℕ). eqb c 64) (code-place e (omega arith))
 
 free-piece : (c : ℕ) → carried 1 [] 0 c ≡ part c false ∷ []
 unfolding carried
 free-piece c = refl
 
 -- ---- asking
-
-head-test : (C : Case) → Sound C → (e : ℕ) (ls : List Leg) → e ≤ 64 → ((p : Place) → headIs p ls ≡ true → Coded p) → eqb (headCode ls) e ≡ headIs (placeOf e) ls
-head-test C sound e [] h known = ne-eqb nowhere e (λ z. omega arith)
-head-test C sound e (l ∷ ls) h known = code-test (l .place) e (known (l .place) (same-self (l .place))) h
 
 module _ (C : Case) (sound : Sound C) (t e k : ℕ) (low : e ≤ 64) where
   next-is : (m : Mark) → Bounded C m → nextOf (tables C) (stateOf m) ≡ headCode (ahead C (m .train) (m .place))
@@ -133,7 +119,7 @@ module _ (C : Case) (sound : Sound C) (t e k : ℕ) (low : e ≤ 64) where
       next : eqb (nextOf (tables C) (stateOf m)) e ≡ headIs (placeOf e) (ahead C (m .train) (m .place))
       next =
           ap (λ (n : ℕ). eqb n e) (next-is m b)
-          ∙ head-test C sound e (ahead C (m .train) (m .place)) low (λ p h. known-coded C sound p (ahead-known C sound (m .train) (m .place) p h))
+          ∙ head-code e (ahead C (m .train) (m .place)) low (λ p h. known-coded C sound p (ahead-known C sound (m .train) (m .place) p h))
 
       go : (a n h l : Bool) → cond a (cond (n && l) h false) false ≡ (a && (n && h && l))
       go true true true true = refl
@@ -149,7 +135,7 @@ module _ (C : Case) (sound : Sound C) (t e k : ℕ) (low : e ≤ 64) where
   unfolding meetsOf
   meets-row m b =
       ap₂ (λ (p j : ℕ). cond (eqb p e) (not (eqb j k)) false) (state-place m fit) (state-train m fit)
-      ∙ ap (λ (z : Bool). cond z (not (eqb (m .train) k)) false) (code-test (m .place) e (fit .coded) low)
+      ∙ ap (λ (z : Bool). cond z (not (eqb (m .train) k)) false) (code-test (m .place) e (fit .coded) (omega arith))
       ∙ go (same (m .place) (placeOf e)) (not (eqb (m .train) k))
     where
       fit : Fit m

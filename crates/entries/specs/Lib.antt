@@ -1,11 +1,9 @@
 pub mod Run
 pub mod Coded
-pub mod Lookups
 pub mod Encoded
 pub mod Rowed
 pub mod Weighed
 pub mod Agreeing
 pub mod Started
 pub mod Answer
-pub mod Smallness
 pub mod Onward

@@ -12,16 +12,15 @@ use Rattle.rules.specs.Lists.{sum}
 use Rattle.rules.specs.Files.{Pair, Case}
 use Rattle.rules.specs.Turns.{Place, same, stands, Leg, way, ahead, headIs, asks}
 use Rattle.sound.specs.Facts.{Sound}
-use Rattle.sound.specs.Trains.{Known, way-planned}
-use Rattle.simulation.specs.Places.{same-self}
+use Rattle.sound.specs.Trains.{Known, way-planned, planned-low}
+use Rattle.sound.specs.Ways.{same-self}
 use Rattle.codes.specs.Codes.{codeOf, placeOf}
 use Rattle.codes.specs.Tables.{headCode, nextCode, stayOn, tables}
 use Rattle.passes.specs.Elements.{ahead-known}
-use Rattle.passes.specs.Bounds.{planned-low}
 use Rattle.passes.specs.Before.{placeBefore, asker-place}
 use Rattle.visiting.specs.Visit.{Ways}
-use Rattle.entries.specs.Coded.{known-coded, coded-small, place-code, code-place}
-use Rattle.entries.specs.Lookups.{table-next, table-stay, table-trains, table-delays}
+use Rattle.codes.specs.Places.{known-coded, coded-small, place-code, code-place}
+use Rattle.codes.specs.Lookups.{table-next, table-stay, table-trains, table-delays}
 
 -- the code of a place that is one of a way's, or outside
 near-code : (p : ℕ) → p ≤ 65 → codeOf (placeOf p) ≡ p

@@ -13,8 +13,9 @@ use Rattle.rules.specs.Turns.{Place, same, Mark, stands, block, dueAgain, Serve
 use Rattle.rules.specs.Turns.Place.{outside, station, track, gone}
 use Rattle.rules.specs.Joint.{Cover, Entry, entry, Piece, meets}
 use Rattle.sound.specs.Facts.{Sound}
-use Rattle.simulation.specs.Lists.{each-append, map-append, Every}
-use Rattle.simulation.specs.Places.{same-self}
+use Rattle.lists.specs.Each.{each-append, map-append}
+use Rattle.lists.specs.Every.{Every}
+use Rattle.sound.specs.Ways.{same-self}
 use Rattle.codes.specs.Codes.{codeOf, placeOf, stateOf}
 use Rattle.codes.specs.Tables.{stayOn, tables}
 use Rattle.passes.specs.Passes.{asksFor, piecesAmong, passed, passList}
@@ -28,8 +29,9 @@ use Rattle.asking.specs.declared.Job.{Job}
 use Rattle.asking.specs.Ask.{asksOf, askerOf, jobOf, capOf, metFor, askingOf}
 use Rattle.serving.specs.Pass.{holdRow, enterRow, coversOf, passedOf}
 use Rattle.visiting.specs.Visit.{someAsks, jobFor}
-use Rattle.entries.specs.Coded.{Coded, code-place, bounded-coded, bounded-fit, state-place}
-use Rattle.entries.specs.Lookups.{table-stay, table-safety}
+use Rattle.codes.specs.Places.{Coded, code-place}
+use Rattle.entries.specs.Coded.{bounded-coded, bounded-fit, state-place}
+use Rattle.codes.specs.Lookups.{table-stay, table-safety}
 use Rattle.entries.specs.Encoded.{rowOf, Good, asks-row, pieces-row}
 
 -- ---- rows of pieces
@@ -146,7 +148,7 @@ module _ (C : Case) (sound : Sound C) (t e k : ℕ) (low : e ≤ 64) where
     stands-is : q .stands ≡ stateOf newStanding
     unfolding jobOf stateOf dueAgain stayOn
     stands-is =
-        omega (arith, code-place e low, table-stay C k e train (omega arith))
+        omega (arith, code-place e (omega arith), table-stay C k e train (omega arith))
 
     blocks-is : q .blocks ≡ stateOf newBlock
     unfolding jobOf stateOf
@@ -163,10 +165,6 @@ module _ (C : Case) (sound : Sound C) (t e k : ℕ) (low : e ≤ 64) where
     job-train : q .train ≡ k
     unfolding jobOf
     job-train = refl
-
-    job-minute : q .minute ≡ t
-    unfolding jobOf
-    job-minute = refl
 
     job-cap : q .cap ≡ capOf (tables C) e
     unfolding jobOf

@@ -16,12 +16,14 @@ use Rattle.rules.specs.Single.{waits}
 use Rattle.rules.specs.Joint.{whole, Entry, entry, firstList, checkList, weightAt}
 use Rattle.rules.specs.Calls.{setImage}
 use Rattle.sound.specs.Facts.{Sound}
-use Rattle.simulation.specs.Lists.{Every, every-below, map-append}
+use Rattle.lists.specs.Each.{map-append}
+use Rattle.lists.specs.Every.{Every}
+use Rattle.lists.specs.Below.{every-below}
 use Rattle.simulation.specs.Start.{first-proper}
 use Rattle.codes.specs.Codes.{stateOf}
 use Rattle.codes.specs.Tables.{tables}
 use Rattle.passes.specs.Joint.{first-lawful}
-use Rattle.passes.specs.Room.{check-room}
+use Rattle.weights.specs.Room.{checkList-room}
 use Rattle.passes.specs.Bounds.{ByteDelays, firstList-bounded}
 use Rattle.cut.specs.Packed.{packedIn}
 use Rattle.cut.specs.Sets.{image-delays, whole-delays, single-delays}
@@ -29,7 +31,7 @@ use Rattle.rows.specs.Rows.{Row, row}
 use Rattle.opening.specs.First.{firstByte, firstBytes, firstRow, firstRows}
 use Rattle.visiting.specs.Visit.{guard}
 use Rattle.visiting.specs.Visiting.{guard-in, guard-out}
-use Rattle.entries.specs.Lookups.{table-trains, table-delays, table-first, table-delay, table-room}
+use Rattle.codes.specs.Lookups.{table-trains, table-delays, table-first, table-delay, table-room}
 use Rattle.entries.specs.Encoded.{rowOf}
 use Rattle.entries.specs.Weighed.{Weighs}
 use Rattle.entries.specs.Agreeing.{Agrees, Kind}
@@ -161,7 +163,7 @@ module _ (C : Case) (sound : Sound C) where
       subst (Agrees C start) (sym (ap₂ (λ (r : ℕ) (l : List Row). guard r l (replicate {A = ℕ} 5760 0)) (table-room C) first-rows)) (go (ltb (C .head .room) (length (firstList C))) refl)
     where
       met : checkList C (firstList C) ≡ cond (ltb (C .head .room) (length (firstList C))) 12 0
-      met = check-room C sound (firstList C) (first-proper C sound)
+      met = checkList-room C sound (firstList C) (first-proper C sound)
 
       go : (b : Bool) → ltb (C .head .room) (length (firstList C)) ≡ b → Agrees C start (guard (C .head .room) (map rowOf (firstList C)) (replicate {A = ℕ} 5760 0))
       go true q =

@@ -18,9 +18,9 @@ use Rattle.rules.specs.Single.{pairAt}
 use Rattle.rules.specs.Joint.{Cover, Entry, Piece, piece, carry, meets, weight, weightAt, whole}
 use Rattle.rules.specs.Calls.{setImage}
 use Rattle.sound.specs.Facts.{Sound}
-use Rattle.sound.specs.Facts as facts
 use Rattle.sound.specs.Trains.{anywhere}
-use Rattle.simulation.specs.Lists.{Every, every-more, sum-append, sum-same}
+use Rattle.lists.specs.Every.{Every, every-more}
+use Rattle.lists.specs.Sums.{sum-append, sum-every}
 use Rattle.simulation.specs.Parts.{Parts, carry-parts}
 use Rattle.weights.specs.Choices.{product, weight-product}
 use Rattle.codes.specs.Codes.{codeOf, placeOf}
@@ -37,9 +37,9 @@ use Rattle.asking.specs.Ask.{jobOf, metFor}
 use Rattle.serving.specs.Pass.{coversOf, enterRow}
 use Rattle.visiting.specs.Visit.{arrivedOf, jobFor}
 use Rattle.visiting.specs.Arriving.{arrived-any}
-use Rattle.entries.specs.Coded.{Coded, code-place, code-test, place-code}
-use Rattle.entries.specs.Lookups.{table-weight, table-last, table-trains}
-use Rattle.entries.specs.Encoded.{rowOf, Good, proper-packable, place-coded, meets-parts}
+use Rattle.codes.specs.Places.{Coded, code-place, code-test, place-code, place-coded}
+use Rattle.codes.specs.Lookups.{table-weight, table-last, table-trains}
+use Rattle.entries.specs.Encoded.{rowOf, Good, proper-packable, meets-parts}
 use Rattle.entries.specs.Rowed.{Asker, enter-is}
 
 mod-sum : (a b : ℕ) → (a % 2 ^ 64 + b % 2 ^ 64) % 2 ^ 64 ≡ (a + b) % 2 ^ 64
@@ -89,7 +89,7 @@ module _ (C : Case) where
       let a : 112 + j * 8 ≡ 112 + j * 8 + 0 = omega arith in
       ap₂ (λ (i x : ℕ). setWeight (tables C) i 8 x) a (image-delays r)
       ∙ set-sum (tables C) (112 + j * 8) r
-      ∙ sum-same (λ d. d < 0 + 8) (λ d. getD (tables C) (112 + j * 8 + d) 0) (λ d. pairAt C j d .weight)
+      ∙ sum-every (λ d. d < 0 + 8) (λ d. getD (tables C) (112 + j * 8 + d) 0) (λ d. pairAt C j d .weight)
       (λ d l. ap (λ (i : ℕ). getD (tables C) i 0) (let e : 112 + j * 8 + d ≡ 112 + (j * 8 + d) = omega arith in e) ∙ table-weight C j d h (omega arith)) s (delays-below r)
 
   cover-weight : (j : ℕ) {b n : ℕ} {p : Cover} → j + n ≤ 8 → Sets b n p → coverWeight (tables C) j n (packedIn b p) ≡ product C j p
@@ -113,7 +113,7 @@ module _ (C : Case) where
 
     -- ---- the last station
 
-    last-known : (stops : List Stop) → facts.Every (λ s. s .station < length (C .stations)) stops → lastOf stops .station < 24
+    last-known : (stops : List Stop) → Every (λ s. s .station < length (C .stations)) stops → lastOf stops .station < 24
     last-known [] h = omega arith
     last-known (a ∷ []) h = omega (arith, h .0, sound .few-stations)
     last-known (a ∷ (b ∷ l)) h = last-known (b ∷ l) (h .1)
@@ -128,8 +128,8 @@ module _ (C : Case) where
 
     last-test : (e k : ℕ) → e ≤ 64 → eqb e (codeOf (lastStation C k)) ≡ same (placeOf e) (lastStation C k)
     last-test e k h =
-        ap (λ (c : ℕ). eqb c (codeOf (lastStation C k))) (sym (code-place e h))
-        ∙ code-test (placeOf e) (codeOf (lastStation C k)) (place-coded e h) (last-low k)
+        ap (λ (c : ℕ). eqb c (codeOf (lastStation C k))) (sym (code-place e (omega arith)))
+        ∙ code-test (placeOf e) (codeOf (lastStation C k)) (place-coded e) (omega (arith, last-low k))
         ∙ ap (same (placeOf e)) (place-code (lastStation C k) (last-coded k))
 
     -- ---- a pass

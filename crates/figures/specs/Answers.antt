@@ -6,9 +6,7 @@ use mathlib.Core.List.{List}
 use Prim.Native.Nat.{ℕ, _≤_}
 use lib.IntN.{pos}
 use lib.Ieee.{Float, fin}
-use Rattle.rules.specs.Refusals.{Refusal, Result}
-use Rattle.rules.specs.Refusals.Result.{refused, answer}
-use Rattle.rules.specs.Files.{Head, Case}
+use Rattle.rules.specs.Files.{Case}
 use Rattle.rules.specs.Joint.{Entry, total, weightAt}
 use Rattle.rules.specs.Figures as rules
 use Rattle.rules.specs.Figures.Punctuality.{never, always, share}
@@ -49,11 +47,6 @@ figuresAnswer f = record { punctuality = punctualityAnswer (f .punctuality); sha
 -- the figures of a refused call are all 0
 abbrev pub noFigures : Figures
 noFigures = record { punctuality = Refused; shares = record { «on_time» = none; late = none; «not_arrived» = none }; sum = 0; weight = 0 }
-
--- what a call comes to
-abbrev pub resultAnswer : Result rules.Figures → Figures
-resultAnswer (refused r) = noFigures
-resultAnswer (answer f) = figuresAnswer f
 
 -- the words hold what has arrived of train k, and plan, last minute and whole are the case's
 pub record Holds (C : Case) (arrived : List Entry) (ws : List ℕ) (k plan last total : ℕ) : Type 0 where

@@ -9,12 +9,12 @@ use native.Mathlib.Omega.{arith}
 use lib.Dec.{leb, ltb}
 use borrow.Author.Tests.{leb-true, leb-false, le-leb, lt-leb, le-ltb, lt-ltb}
 use Rattle.rules.specs.Lists.{tick, sum, span, below}
-use Rattle.rules.specs.Files.{Head, Case}
+use Rattle.rules.specs.Files.{Case}
 use Rattle.rules.specs.Joint.{Entry, weightAt}
 use Rattle.rules.specs.Listing.{notArrived}
-use Rattle.rules.specs.Figures.{Figures, plan, weightIn, onTime, late, latenessSum, latenessWeight, punctuality, shares, figures}
+use Rattle.rules.specs.Figures.{plan, weightIn, onTime, late, latenessSum, latenessWeight, punctuality, shares, figures}
 use Rattle.words.specs.Spans.{onward, onward-all, onward-next, onward-end}
-use Rattle.weights.specs.Sums.{sum-keep, sum-plus, sum-same, sum-times}
+use Rattle.lists.specs.Sums.{sum-keep, sum-plus, sum-same, sum-times}
 use Rattle.figures.specs.Sums.{wordOf, arrivedWeight, onTimeWeight, lateWeight, lateness, judgement, sharesIn, figuresIn}
 use Rattle.figures.specs.Answers.{Holds}
 

@@ -1,10 +1,10 @@
 -- The words of a joint run keep what the figures ask of their weights: those of a train are part of all, and all is at most 10^14.
--- What has arrived and what has not make up all, and at most seven trains weigh 100^7. Assumes the two facts of `Seen`.
+-- What has arrived and what has not make up all, and at most seven trains weigh 100^7. Takes `Seen` as given, and assumes nothing else.
 use mathlib.Core.List.{List}
 use Prim.Native.Nat.{ℕ, _≤_, _<_}
 use native.Mathlib.Omega.{arith}
 use lib.ListN.{length}
-use Rattle.rules.specs.Files.{Head, Case}
+use Rattle.rules.specs.Files.{Case}
 use Rattle.rules.specs.Joint.{joint}
 use Rattle.rules.specs.Figures.{latenessWeight}
 use Rattle.sound.specs.Facts.{Sound}

@@ -8,7 +8,8 @@ use Rattle.rows.specs.Rows.{Row, rowsOf}
 use Rattle.waiting.specs.Notes.{Flagged}
 use Rattle.visiting.specs.Visit.{Outcome, passOf, read, Kept, Seen}
 use Rattle.visiting.specs.Visit.Outcome.{refused, stands}
-use Rattle.visiting.specs.Visiting.{read-in, read-out, pass-over}
+use Rattle.visiting.specs.Visiting.{read-in, read-out}
+use Rattle.visiting.specs.Unmoved.{pass-over}
 use Rattle.elements.specs.Elements.{upTo, elementOf, elementsOf}
 use Rattle.clearing.specs.Clear.{Due, Cleared}
 use Rattle.clearing.specs.Clearing.{noted-due}

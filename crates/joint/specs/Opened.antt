@@ -10,7 +10,8 @@ use lib.ListN.{length, take, getD, replicate}
 use lib.Dec.{eqb, ltb}
 use lib.Pow.{pow-mono}
 use Rattle.rules.specs.Lists.{below}
-use Rattle.simulation.specs.Lists.{Every, every-each, every-map, every-below}
+use Rattle.lists.specs.Every.{Every, every-each, every-map}
+use Rattle.lists.specs.Below.{every-below}
 use Rattle.cut.specs.Cut.{fullOf}
 use Rattle.rows.specs.Rows.{Row, rowsOf, rowsIn, words, Put}
 use Rattle.rows.specs.Written.{words-length, rowsOf-words, put-start, put-length, put-fits}

@@ -1,7 +1,7 @@
 // The joint run on rows of two words: minutes and the run to a stop minute, with the weights that arrive.
 ghost use mathlib.Core.Path.{_≡_};
 ghost use Prim.Native.Nat.{_+_, _<_};
-ghost use lib.ListN.{length, take};
+ghost use lib.ListN.{length, take, replicate};
 ghost use Rattle.rows.specs.Rows.{rowsOf};
 ghost use Rattle.weigh.specs.Weigh.{Small};
 ghost use Rattle.serving.specs.Pass.{Lent};
@@ -65,7 +65,8 @@ pub fn minutes(
     v
 }
 
-// The run from the first list through the minute `stop`: the number of words of its rows, or the length of the lent rows for refusal 12.
+// The run from the first list through the minute `stop`, where nothing is noted and nothing has arrived: the number of words of its rows, or the length of
+// the lent rows for refusal 12.
 pub fn run(
     rows: &mut [u64],
     tmp: &mut [u64],
@@ -78,13 +79,12 @@ pub fn run(
     stop: u64,
 ) -> usize
     requires { ⌜ Lent (now tables) (now rows) (now tmp) (now met) (now held) (now entering) ⌝ }
-    requires { ⌜ (stop < 720) × Small (now tables) × Ways (now tables) × (length (now notes) ≡ 6272) ⌝ }
+    requires { ⌜ (stop < 720) × Small (now tables) × Ways (now tables) ⌝ }
+    requires { ⌜ (now notes ≡ replicate 6272 0) × (now weights ≡ replicate (length (now weights)) 0) ⌝ }
     ensures { λ r. ⌜ Answers (now (tables .entry)) stop (length (now (weights .entry))) r (now (rows .exit)) (now (weights .exit)) ⌝ }
 {
-    let _x = opening::clear(weights);
-    let _y = opening::clear(notes);
     let w = opening::begin(tables, rows);
-    let _z = clearing::enrol(rows, w / 2, notes);
+    let _x = clearing::enrol(rows, w / 2, notes);
     minutes(
         rows,
         w,

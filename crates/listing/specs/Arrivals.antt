@@ -13,11 +13,13 @@ use Rattle.rules.specs.Files.{Case}
 use Rattle.rules.specs.Turns.{Place, same, Mark, stands, lastStation, ended, asks, leaving, entered, arriving, elements, Served}
 use Rattle.rules.specs.Joint.{Piece, Entry, entry, pieces, serveEntry, firstList, jointRules, joint}
 use Rattle.sound.specs.Facts.{Sound}
-use Rattle.simulation.specs.Lists.{every-all, sum-append, count-le}
-use Rattle.simulation.specs.Places.{Asked, asked, same-eq}
+use Rattle.lists.specs.Every.{every-all}
+use Rattle.lists.specs.Sums.{sum-append, count-le}
+use Rattle.sound.specs.Ways.{same-true}
+use Rattle.simulation.specs.Places.{Asked, asked}
 use Rattle.simulation.specs.Orderly.{toGo}
 use Rattle.simulation.specs.Keeping.{servedList, run-keeps}
-use Rattle.weights.specs.Longest.{serveEntry-grows}
+use Rattle.trace.specs.Longest.{serveEntry-grows}
 use Rattle.weights.specs.Room.{list-fits}
 
 -- the mark has come in: it stands at its train's last station, or past it
@@ -109,12 +111,12 @@ module _ (C : Case) (sound : Sound C) (t : ℕ) (e : Place) (a : Entry) where
           omega (arith, sound .onward k (a .mark .place) e (q .goes), leb-true (toGo C k (a .mark .place)) (toGo C k (lastStation C k)) (sym (ap (λ (b : Bool). not b && leb (toGo C k (a .mark .place)) (toGo C k (lastStation C k))) (q .stood)) ∙ h))
 
       go : (b : Bool) → same e (lastStation C k) ≡ b → b ≡ false
-      go true s = absurd (omega (arith, less, ap (toGo C k) (same-eq e (lastStation C k) s)))
+      go true s = absurd (omega (arith, less, ap (toGo C k) (same-true e (lastStation C k) s)))
       go false s = refl
 
   -- a train that arrives has come in
   arrives-in : same e (lastStation C k) ≡ true → comes-in ≡ true
-  arrives-in s = le-leb (toGo C k e) (toGo C k (lastStation C k)) (omega (arith, ap (toGo C k) (same-eq e (lastStation C k) s)))
+  arrives-in s = le-leb (toGo C k e) (toGo C k (lastStation C k)) (omega (arith, ap (toGo C k) (same-true e (lastStation C k) s)))
 
   -- serving adds no arrival without an entry that has come in, and loses none that had
   served-in : Asked C t e (a .mark) → (hs es : List Piece) → 1 ≤ length (heldOf hs) + length (addedOf es)

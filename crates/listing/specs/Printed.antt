@@ -7,13 +7,13 @@ use native.Mathlib.Numerals.{add-one}
 use native.Mathlib.Omega.{arith}
 use lib.ListN.{length}
 use Rattle.rules.specs.Lists.{each, sum, below}
-use Rattle.rules.specs.Files.{Case, mostTrains}
+use Rattle.rules.specs.Files.{Case}
 use Rattle.rules.specs.Joint.{Entry, total, weightAt}
 use Rattle.rules.specs.Listing.{minuteLine, window, notArrived, trainLines, listing}
 use Rattle.rules.specs.Calls.{filled}
-use Rattle.simulation.specs.Lists.{every-below, sum-same}
+use Rattle.lists.specs.Sums.{sum-every}
+use Rattle.lists.specs.Below.{every-below}
 use Rattle.images.specs.Writing.{Wrote}
-use Rattle.images.specs.Rows.{Weighed}
 use Rattle.images.specs.Filled.{cleared-length, cleared-filled, filled-sets}
 use Rattle.images.specs.Below.{each-below-same}
 use Rattle.listing.specs.Text.{heldAt, minuteLines, leftOf, lastLine, linesOf, trainsLines, firstLine, textFrom, Weighs, Listed}
@@ -33,7 +33,7 @@ module _ (C : Case) (v : List Entry) (ws : List ℕ) (h : Weighs C v (length (C 
   left-weighs =
       ap (λ (n : ℕ). 100 ^ length (C .trains) - sum (heldAt ws k) (below n)) (add-one (C .head .lastMinute))
       ∙ ap (λ (n : ℕ). 100 ^ length (C .trains) - n)
-      (sum-same (λ t. t < suc (C .head .lastMinute)) (heldAt ws k) (weightAt C v k) word-at (window C) (every-below (suc (C .head .lastMinute))))
+      (sum-every (λ t. t < suc (C .head .lastMinute)) (heldAt ws k) (weightAt C v k) word-at (window C) (every-below (suc (C .head .lastMinute))))
 
   lines-weigh : linesOf (100 ^ length (C .trains)) (C .head .lastMinute) ws k ≡ trainLines C v k
   unfolding linesOf trainLines lastLine
@@ -48,11 +48,6 @@ text-listing C v trains last ws h =
   where
     here : Weighs C v (length (C .trains)) (C .head .lastMinute) ws
     here = record { all-trains = refl; all-minutes = refl; words = λ k t l m. h .words k t (omega (arith, h .all-trains)) (omega (arith, h .all-minutes)) }
-
--- words that hold the weights of a run hold those of its trains and minutes
-pub weighed-weighs : (C : Case) (v : List Entry) (ws : List ℕ) → length (C .trains) ≤ mostTrains → C .head .lastMinute ≤ 719 → Weighed C v ws
-    → Weighs C v (length (C .trains)) (C .head .lastMinute) ws
-weighed-weighs C v ws few window h = record { all-trains = refl; all-minutes = refl; words = λ k t l m. h .words k t (omega arith) (omega arith) }
 
 -- what was written into cleared text, where it fits
 pub wrote-listed : (l L : List ℕ) (r : ℕ) (l′ : List ℕ) → Wrote (filled (length l) [] l) 0 L r l′ → length L ≤ length l → Listed l L r l′

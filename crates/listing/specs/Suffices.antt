@@ -14,9 +14,9 @@ use Rattle.rules.specs.Files.{Case}
 use Rattle.rules.specs.Joint.{Entry, total, weight, weightAt, joint}
 use Rattle.rules.specs.Listing.{digits, decimal, line, totalWord, window, notArrived, minuteLine, trainLines, listing}
 use Rattle.sound.specs.Facts.{Sound}
-use Rattle.sound.specs.Every.{length-span}
-use Rattle.simulation.specs.Lists.{Every, every-below, tick-le, length-keep, sum-less, sum-below-le}
-use Rattle.weights.specs.Sums.{sum-same, sum-plus, sum-times}
+use Rattle.lists.specs.Below.{length-span, every-below, sum-below-le}
+use Rattle.lists.specs.Every.{Every}
+use Rattle.lists.specs.Sums.{tick-le, length-keep, sum-less, sum-same, sum-plus, sum-times}
 use Rattle.listing.specs.Arrivals.{arrived-few}
 
 -- ---- sums and lengths

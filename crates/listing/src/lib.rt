@@ -3,12 +3,12 @@
 ghost use mathlib.Core.Path.{_≡_};
 ghost use mathlib.Core.List.{List, [], _∷_, _++_};
 ghost use Prim.Native.Nat.{_+_, _-_, _*_, _^_, _≤_, _<_};
-ghost use lib.ListN.{length, getD, replicate};
+ghost use lib.ListN.{length, getD};
 ghost use Rattle.rules.specs.Refusals.{Refusal};
 ghost use Rattle.rules.specs.Listing.{decimal, minuteLine, refusedLine};
 ghost use Rattle.rules.specs.Calls.{filled};
 ghost use Rattle.images.specs.Writing.{Wrote};
-ghost use Rattle.listing.specs.Text.{heldAt, minuteLines, leftOf, lastLine, linesOf, firstLine, textFrom, Prints};
+ghost use Rattle.listing.specs.Text.{minuteLines, leftOf, lastLine, linesOf, firstLine, textFrom, Prints};
 
 // One byte more.
 fn put(text: &mut [u8], at: usize, b: u8) -> usize
@@ -144,7 +144,7 @@ fn train_lines(
 }
 
 // All choices of n trains together weigh 100^n.
-fn whole_weight(n: usize) -> u64
+pub fn whole_weight(n: usize) -> u64
     requires { ⌜ n ≤ 8 ⌝ }
     ensures { λ r. ⌜ r ≡ 100 ^ n ⌝ }
 {

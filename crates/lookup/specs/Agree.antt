@@ -10,8 +10,8 @@ use lib.Seq.{getD-take, getD-drop}
 use lib.Dec.{leb, ltb, eqb}
 use borrow.Author.Tests.{lt-ltb, le-ltb, le-leb, lt-leb, eqb-true}
 use Rattle.rules.specs.Lists.{one, each, keep}
-use Rattle.rules.specs.Refusals.{Result, refuse, number}
-use Rattle.rules.specs.Refusals.Result.{refused, answer}
+use Rattle.rules.specs.Refusals.{Result, refuse}
+use Rattle.rules.specs.Refusals.Result.{answer}
 use Rattle.rules.specs.Files.{File, Contents, Case, Table, Train, byte, word, tableOf, trainOf, more, read, tablesOf, lacking}
 use Rattle.rules.specs.Files.File.{case, book}
 use Rattle.bodies.specs.Bodies.{badLength}

@@ -1,11 +1,11 @@
--- What is promised of case and book together: the code's four ways to answer are those of 01, and the first 4,096 bytes of each file decide.
+-- What is promised of case and book together: the code's four ways to answer are those of 01.
 -- Each way follows from the two readings and from where the walk for a train without a table ends. Assumes nothing.
 use mathlib.Core.Path.{_≡_, refl, ap, sym, _∙_}
 use mathlib.Core.Bool.{Bool, true, false, cond}
 use mathlib.Core.List.{List, map}
 use Prim.Native.Nat.{ℕ, _≤_, _<_}
 use native.Mathlib.Omega.{arith}
-use lib.ListN.{length, take}
+use lib.ListN.{length}
 use lib.Dec.{ltb}
 use borrow.Author.Tests.{lt-ltb, le-ltb}
 use Rattle.rules.specs.Refusals.{Result, then, refuse}
@@ -16,7 +16,7 @@ use Rattle.reader.specs.declared.Counts.{Counts}
 use Rattle.reader.specs.declared.Reading.{Reading}
 use Rattle.reader.specs.declared.Reading.the-variants.{Accepted, Refused}
 use Rattle.reader.specs.Answers.{countsOf, readingOf}
-use Rattle.reader.specs.Final.{refused-file, read-first}
+use Rattle.reader.specs.Final.{refused-file}
 use Rattle.lookup.specs.declared.Files.the-variants.{Sound, Unsound}
 use Rattle.lookup.specs.Lookup.{tableBytes, lackingPlace}
 use Rattle.lookup.specs.Answers.{filesOf, ofFile, Looked}
@@ -88,8 +88,3 @@ module _ (cs bk : List ℕ) where
       -- both files stand
       pub files-sound : length cs ≤ i → Sound (record { stations = s .stations; tracks = s .tracks; trains = s .trains }) ≡ filesOf (files cs bk)
       files-sound k = sym (both false (le-ltb i (length cs) k))
-
-  -- what stands past the first 4,096 bytes of either file never changes the answer
-  pub files-first : files (take 4096 cs) (take 4096 bk) ≡ files cs bk
-  unfolding files
-  files-first = rw (read-first case cs, read-first book bk)

@@ -99,17 +99,5 @@ case-pairs cs bk C h j k =
     let n : length (C .trains) ≡ length (w .inCase .trains) = ap (λ (D : Case). length (D .trains)) (w .is) in
     train-pairs cs bk (w .inCase) (w .inBook) (w .of-case) (w .of-book) j (omega arith) ∙ sym (ap (λ (D : Case). getD (D .tables) j []) (w .is))
 
--- train j of a sound case
-pub case-train : (cs bk : List ℕ) (C : Case) → files cs bk ≡ answer C → (j : ℕ) (d : Train) → j < length (C .trains)
-    → getD (C .trains) j d ≡ trainOf (trainPlace cs j) (bodyAt cs (trainPlace cs j))
-unfolding caseOf trainPlace
-case-train cs bk C h j d k =
-    let w = both cs bk C h in
-    let n : length (C .trains) ≡ length (w .inCase .trains) = ap (λ (D : Case). length (D .trains)) (w .is) in
-    let m = trains-count cs bk (w .inCase) (w .inBook) (w .of-case) (w .of-book) in
-    ap (λ (D : Case). getD (D .trains) j d) (w .is)
-    ∙ ap (λ (l : List Train). getD l j d) (trains-placed cs bk (w .inCase) (w .inBook) (w .of-case) (w .of-book))
-    ∙ getD-map (λ i. trainOf i (bodyAt cs i)) (trainPlaces cs) j (length cs) d (omega arith)
-
 pub train-table : {cs bk : List ℕ} {k : ℕ} {b : List ℕ} → b ≡ tableBytes cs bk (byte cs (trainPlace cs k + 4)) → TrainTable cs bk k b
 train-table {cs} {bk} {k} {b} h = record { bytes = h; pairs = λ C q j. rw h (case-pairs cs bk C q k j) }

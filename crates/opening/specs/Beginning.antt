@@ -7,7 +7,7 @@ use native.Mathlib.Omega.{arith}
 use lib.ListN.{length, take, getD, set, replicate}
 use lib.Seq.{take-suc-set}
 use Rattle.rules.specs.Lists.{each, span, below}
-use Rattle.simulation.specs.Lists.{each-append, map-append}
+use Rattle.lists.specs.Each.{each-append, map-append}
 use Rattle.rows.specs.Rows.{Row, words}
 use Rattle.rows.specs.Written.{words-append}
 use Rattle.opening.specs.First.{firstByte, firstBytes, firstRow}

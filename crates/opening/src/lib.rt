@@ -1,8 +1,8 @@
-// The first list: one row per train and delay, written from the tables; and weights of 0.
+// The first list: one row per train and delay, written from the tables.
 ghost use mathlib.Core.Path.{_≡_};
 ghost use mathlib.Core.List.{map};
 ghost use Prim.Native.Nat.{_+_, _≤_, _<_};
-ghost use lib.ListN.{length, getD, replicate};
+ghost use lib.ListN.{length, getD};
 ghost use Rattle.rules.specs.Lists.{below};
 ghost use Rattle.rows.specs.Rows.{words, Put};
 ghost use Rattle.weigh.specs.Weigh.{Small};
@@ -16,8 +16,8 @@ pub fn first_byte(tables: &[u64], k: u64, d: u64, j: u64) -> u64
     if j == k {
         return 1 << d;
     }
-    if j < rows::at(tables, 0) {
-        let n = rows::at(tables, 40 + j);
+    if j < words::at(tables, 0) {
+        let n = words::at(tables, 40 + j);
         return (1 << n) - 1;
     }
     1
@@ -43,12 +43,12 @@ pub fn first_train(tables: &[u64], k: u64, rows: &mut [u64], w: usize) -> usize
     requires { ⌜ Small (now tables) × (k < 8) × (w ≤ length (now rows)) ⌝ }
     ensures { λ r. ⌜ Put (now (rows .entry)) w (words (map (firstRow (now (tables .entry)) k) (below (getD (now (tables .entry)) (40 + k) 0)))) r (now (rows .exit)) ⌝ }
 {
-    let n = rows::at(tables, 40 + k);
-    let arrival = rows::at(tables, 32 + k);
+    let n = words::at(tables, 40 + k);
+    let arrival = words::at(tables, 32 + k);
     let mut d = 0;
     let mut at = w;
     while d < n {
-        let delay = rows::at(tables, 48 + (k * 8 + d));
+        let delay = words::at(tables, 48 + (k * 8 + d));
         let c = first_cover(tables, k, d);
         at = rows::append(rows, at, k * 524288 + 266240 + (arrival + delay), c);
         d += 1;
@@ -61,7 +61,7 @@ pub fn begin(tables: &[u64], rows: &mut [u64]) -> usize
     requires { ⌜ Small (now tables) ⌝ }
     ensures { λ r. ⌜ Put (now (rows .entry)) 0 (words (firstRows (now (tables .entry)))) r (now (rows .exit)) ⌝ }
 {
-    let n = rows::at(tables, 0);
+    let n = words::at(tables, 0);
     let mut k = 0;
     let mut at = 0;
     while k < n {
@@ -69,16 +69,4 @@ pub fn begin(tables: &[u64], rows: &mut [u64]) -> usize
         k += 1;
     }
     at
-}
-
-// All weights are 0.
-pub fn clear(weights: &mut [u64]) -> usize
-    ensures { λ r. ⌜ now (weights .exit) ≡ replicate (length (now (weights .entry))) 0 ⌝ }
-{
-    let mut i = 0;
-    while i < weights.len() {
-        weights[i] = 0;
-        i += 1;
-    }
-    i
 }

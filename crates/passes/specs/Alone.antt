@@ -15,10 +15,12 @@ use Rattle.rules.specs.Files.{Case}
 use Rattle.rules.specs.Turns.{Place, same, Mark, capacity, entered, arriving, Served, served, State, state}
 use Rattle.rules.specs.Turns.Place.{gone}
 use Rattle.rules.specs.Single.{enters, serveTrain, singleRules}
-use Rattle.simulation.specs.Lists.{Every, every-all, every-more, each-append, sum-less, sum-zero}
+use Rattle.lists.specs.Each.{each-append}
+use Rattle.lists.specs.Every.{Every, every-all, every-more}
+use Rattle.lists.specs.Sums.{sum-less, sum-zero}
 use Rattle.simulation.specs.Places.{asked}
 use Rattle.simulation.specs.Orderly.{isStanding, Orderly, trainsOn-count}
-use Rattle.weights.specs.Trace.{first-none}
+use Rattle.trace.specs.Trace.{first-none}
 use Rattle.passes.specs.Lists.{keep-none, keep-others, One, AtMostOne, at-most-one}
 use Rattle.passes.specs.Lists.AtMostOne.{none, single}
 use Rattle.passes.specs.Passes.{asksFor, admits, goes, passTrain}

@@ -11,7 +11,9 @@ use Rattle.rules.specs.Files.{Case}
 use Rattle.rules.specs.Turns.{Place, same, stands, lastStation, Served, served, State}
 use Rattle.rules.specs.Joint.{Cover, Entry, entry, Piece, meets, weight, weightAt}
 use Rattle.sound.specs.Facts.{Sound}
-use Rattle.simulation.specs.Lists.{each-none, each-self, each-every, Every, every-map, every-each, every-one, every-all, sum-each, sum-same, sum-zero}
+use Rattle.lists.specs.Each.{each-none, each-self}
+use Rattle.lists.specs.Every.{each-every, Every, every-map, every-each, every-one, every-all}
+use Rattle.lists.specs.Sums.{sum-each, sum-every, sum-zero}
 use Rattle.weights.specs.Entries.{weightAt-append}
 use Rattle.passes.specs.Passes.{asksFor, piecesAmong, passed, passArrived, pass}
 use Rattle.passes.specs.Before.{newMarks, arrivalMarks, serveWith, passed-with}
@@ -64,7 +66,7 @@ module _ (C : Case) (sound : Sound C) (t : ℕ) (e : Place) (k : ℕ) where
   unfolding passArrived arrivedWeight enteringWeight arrivalMarks
   arrived-sum l =
       sum-each f (λ r. passed C t e k (meets e k l) r .arrived) l
-      ∙ sum-same (λ r. Unit) (λ r. sum f (passed C t e k (meets e k l) r .arrived)) (λ r. cond (asksFor C t e k (r .mark)) (cond (same e (lastStation C k)) (pieceSum r) 0) 0)
+      ∙ sum-every (λ r. Unit) (λ r. sum f (passed C t e k (meets e k l) r .arrived)) (λ r. cond (asksFor C t e k (r .mark)) (cond (same e (lastStation C k)) (pieceSum r) 0) 0)
       (λ r u. ap (sum f) (passed-arrived (meets e k l) r) ∙ row (asksFor C t e k (r .mark)) (same e (lastStation C k)) (keep (λ q. not (q .held)) (piecesAmong C e (meets e k l) (r .cover))))
       l (every-all (λ r. Unit) (λ r. tt) l)
       ∙ last (same e (lastStation C k))
@@ -79,14 +81,14 @@ module _ (C : Case) (sound : Sound C) (t : ℕ) (e : Place) (k : ℕ) where
           → sum f (cond a (each (λ q. map (λ m. entry m (q .cover)) (one b (stands k e t))) ps) []) ≡ cond a (cond b (sum (λ q. weight C (q .cover)) ps) 0) 0
       row true true ps =
           sum-each f (λ q. entry (stands k e t) (q .cover) ∷ []) ps
-          ∙ sum-same (λ q. Unit) (λ q. weight C (q .cover) + 0) (λ q. weight C (q .cover)) (λ q u. omega arith) ps (every-all (λ q. Unit) (λ q. tt) ps)
+          ∙ sum-every (λ q. Unit) (λ q. weight C (q .cover) + 0) (λ q. weight C (q .cover)) (λ q u. omega arith) ps (every-all (λ q. Unit) (λ q. tt) ps)
       row true false ps = ap (sum f) (each-none ps)
       row false b ps = refl
 
       last : (b : Bool) → sum (λ r. cond (asksFor C t e k (r .mark)) (cond b (pieceSum r) 0) 0) l ≡ cond b (sum (λ r. cond (asksFor C t e k (r .mark)) (pieceSum r) 0) l) 0
       last true = refl
       last false =
-          sum-same (λ r. Unit) (λ r. cond (asksFor C t e k (r .mark)) 0 0) (λ r. 0) (λ r u. none (asksFor C t e k (r .mark))) l (every-all (λ r. Unit) (λ r. tt) l) ∙ sum-zero l
+          sum-every (λ r. Unit) (λ r. cond (asksFor C t e k (r .mark)) 0 0) (λ r. 0) (λ r u. none (asksFor C t e k (r .mark))) l (every-all (λ r. Unit) (λ r. tt) l) ∙ sum-zero l
         where
           none : (a : Bool) → _≡_ {A = ℕ} (cond a 0 0) 0
           none true = refl

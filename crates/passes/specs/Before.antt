@@ -77,10 +77,6 @@ module _ (C : Case) (sound : Sound C) (t : ℕ) (e : Place) where
     pub asksFor-place : (m : Mark) → asksFor C t e k m ≡ true → m .place ≡ placeBefore C k e
     asksFor-place m h = asker-place m (asksFor-asks C t e k m h) ∙ ap (λ (j : ℕ). placeBefore C j e) (asksFor-train C t e k m h)
 
-    -- two askers of a train for an element stand at one place
-    pub askers-place : (m n : Mark) → asksFor C t e k m ≡ true → asksFor C t e k n ≡ true → m .place ≡ n .place
-    askers-place m n h l = asksFor-place m h ∙ sym (asksFor-place n l)
-
     -- the marks that enter are the same for all askers of the train
     pub asksFor-entered : (m : Mark) → asksFor C t e k m ≡ true → entered C t e m ≡ newMarks C t e k
     unfolding entered leaving newMarks

@@ -4,37 +4,33 @@ use mathlib.Core.Path.{_≡_, refl, sym, ap, _∙_, subst}
 use mathlib.Core.Bool.{Bool, true, false, not, _||_, cond, false≢true, or-true}
 use mathlib.Core.List.{List, [], _∷_, _++_, map, append-nil}
 use Prim.Native.Nat.{ℕ, suc, _+_, _≤_, _<_}
-use native.Mathlib.Nat.{le-trans}
 use native.Mathlib.Omega.{arith}
 use lib.ListN.{length, getD, set}
 use borrow.Author.Tests.{not-true}
 use Rattle.rules.specs.Lists.{any, below}
 use Rattle.rules.specs.Files.{Stop, Case}
-use Rattle.rules.specs.Turns.{Place, same, Mark, block, Leg, leg, trainAt, way, after, ahead, headIs, plannedOn, ended, asks, dueAgain, leaving, entered, State, state, Rules}
-use Rattle.rules.specs.Turns.Place.{outside, station, track, gone}
-use Rattle.rules.specs.Single.{pairAt, firstArrival, waits, firstMarks, singleRules}
+use Rattle.rules.specs.Turns.{Place, same, Mark, block, Leg, leg, trainAt, way, after, ahead, headIs, ended, asks, dueAgain, leaving, entered, State, state, Rules}
+use Rattle.rules.specs.Turns.Place.{outside}
+use Rattle.rules.specs.Single.{pairAt, firstArrival, waits}
 use Rattle.rules.specs.Joint.{Entry, entry, whole, firstList, checkList, jointRules}
-use Rattle.sound.specs.Facts as facts
-use Rattle.sound.specs.Every as facts-every
-use Rattle.sound.specs.Ways.{same-true}
-use Rattle.sound.specs.Trains.{anywhere, Known, way-known, way-planned, train-in-time}
-use Rattle.codes.specs.Codes.{codeOf}
-use Rattle.simulation.specs.Lists.{Every, every-append, every-left, every-right, every-one, every-keep, every-map, every-each, every-below}
+use Rattle.sound.specs.Facts.{Sound}
+use Rattle.sound.specs.Ways.{same-true, same-self}
+use Rattle.sound.specs.Trains.{anywhere, way-planned, train-in-time, planned-low}
+use Rattle.lists.specs.Every.{Every, every-append, every-left, every-right, every-one, every-keep, every-map, every-each, every-anywhere}
+use Rattle.lists.specs.Below.{every-below}
 use Rattle.simulation.specs.Keeping.{servedList}
-use Rattle.simulation.specs.Places.{asked, same-self}
-use Rattle.passes.specs.Passes.{pass, passTrain, cleared, jointPasses}
-use Rattle.passes.specs.Marks.{Marks, joint-marks, single-marks}
+use Rattle.simulation.specs.Places.{asked}
+use Rattle.passes.specs.Passes.{pass, cleared, jointPasses}
+use Rattle.passes.specs.Marks.{Marks, joint-marks}
 use Rattle.passes.specs.Walk.{walk, walk-keeps}
 use Rattle.passes.specs.Pass.{walk-list}
-use Rattle.passes.specs.Alone.{walk-passTrain}
-use Rattle.passes.specs.Single.{InOrder}
 use Rattle.passes.specs.Runs as runs
 
 -- ---- the definitions
 
 -- each delay of the case's tables is a byte
 abbrev pub ByteDelays : Case → Type 0
-ByteDelays C = facts.Every (facts.Every (λ p. p .delay ≤ 255)) (C .tables)
+ByteDelays C = Every (Every (λ p. p .delay ≤ 255)) (C .tables)
 
 -- the place is outside or on the way of train k
 abbrev pub onWay : Case → ℕ → Place → Bool
@@ -52,7 +48,7 @@ AllBounded C mark l = Every (λ a. Bounded C (mark a)) l
 
 -- ---- what a bounded mark's numbers are
 
-pub way-every : (P : Place → Type 0) (p : Place) (ls : List Leg) → facts.Every (λ l. P (l .place)) ls → any (λ l. same (l .place) p) ls ≡ true → P p
+pub way-every : (P : Place → Type 0) (p : Place) (ls : List Leg) → Every (λ l. P (l .place)) ls → any (λ l. same (l .place) p) ls ≡ true → P p
 way-every P p [] h q = absurd (false≢true q)
 way-every P p (l ∷ ls) h q = go (same (l .place) p) refl q (way-every P p ls (h .1))
   where
@@ -60,24 +56,9 @@ way-every P p (l ∷ ls) h q = go (same (l .place) p) refl q (way-every P p ls (
     go true f q ih = subst P (same-true (l .place) p f) (h .0)
     go false f q ih = ih q
 
-known-code : (C : Case) → facts.Sound C → (p : Place) → Known C p → codeOf p ≤ 64
-known-code C sound outside h = absurd h
-known-code C sound (station i) h = omega (arith, sound .few-stations)
-known-code C sound (track j) h = omega (arith, sound .few-tracks)
-known-code C sound gone h = omega arith
-
-legs-code : (C : Case) → facts.Sound C → (ls : List Leg) → facts.Every (λ l. Known C (l .place)) ls → facts.Every (λ l. codeOf (l .place) ≤ 65) ls
-legs-code C sound ls h = facts-every.every-map (λ l k. le-trans (known-code C sound (l .place) k) (omega arith)) ls h
-
-module _ (C : Case) (sound : facts.Sound C) (m : Mark) (b : Bounded C m) where
+module _ (C : Case) (sound : Sound C) (m : Mark) (b : Bounded C m) where
   pub bounded-train : m .train < 7
   bounded-train = omega (arith, b .of-case, sound .few-trains)
-
-  pub bounded-code : codeOf (m .place) < 66
-  bounded-code =
-      let h : codeOf (m .place) ≤ 65 =
-      way-every (λ p. codeOf p ≤ 65) (m .place) (leg outside 0 ∷ way C (m .train)) (omega arith, legs-code C sound (way C (m .train)) (way-known C sound (m .train))) (b .on-way) in
-      omega arith
 
   pub bounded-minute : m .minute < 2048
   bounded-minute = omega (arith, b .in-time)
@@ -99,15 +80,7 @@ head-any : (e : Place) (ls : List Leg) → headIs e ls ≡ true → any (λ l. s
 head-any e [] h = absurd (false≢true h)
 head-any e (l ∷ ls) h = ap (λ (z : Bool). z || any (λ l. same (l .place) e) ls) h
 
-pub planned-low : (T : ℕ) (e : Place) (ls : List Leg) → facts.Every (λ l. l .planned ≤ T) ls → plannedOn e ls ≤ T
-planned-low T e [] h = omega arith
-planned-low T e (l ∷ ls) h = go (same (l .place) e) (planned-low T e ls (h .1))
-  where
-    go : (b : Bool) → plannedOn e ls ≤ T → cond b (l .planned) (plannedOn e ls) ≤ T
-    go true q = h .0
-    go false q = q
-
-module _ (C : Case) (sound : facts.Sound C) where
+module _ (C : Case) (sound : Sound C) where
   -- what a train asks for is on its way
   pub ahead-on : (k : ℕ) (p e : Place) → headIs e (ahead C k p) ≡ true → onWay C k e ≡ true
   unfolding ahead
@@ -169,17 +142,12 @@ module _ (C : Case) (sound : facts.Sound C) where
   pass-bounded t h e k s q =
       subst (AllBounded C (λ r. r .mark)) (walk-list C t e k (s .list) (s .arrived) (s .met)) (walk-bounded (jointRules C) (joint-marks C) t h e k (s .list) (s .arrived) (s .met) q)
 
-  pub passTrain-bounded : (t : ℕ) → t ≤ C .head .lastMinute → (e : Place) (k : ℕ) (s : State Mark) → InOrder C s → Every (Bounded C) (s .list) → Every (Bounded C) (passTrain C t e k s .list)
-  unfolding singleRules
-  passTrain-bounded t h e k s o q =
-      subst (Every (Bounded C)) (ap (λ (u : State Mark). u .list) (walk-passTrain C t e k s o)) (walk-bounded (singleRules C) (single-marks C) t h e k (s .list) (s .arrived) (s .met) q)
-
   pub cleared-bounded : {A : Type 0} (mark : A → Mark) (t : ℕ) (s : State A) → AllBounded C mark (s .list) → AllBounded C mark (cleared mark t s .list)
   cleared-bounded mark t s q = every-keep (λ a. Bounded C (mark a)) (λ a. not (ended t (mark a))) (s .list) q
 
   -- ---- the first marks
 
-  first-arrival : (T : ℕ) (stops : List Stop) → facts.Every (λ s. s .departure ≤ T) stops → facts.Every (λ s. s .arrival ≤ s .departure) stops → firstArrival stops ≤ T
+  first-arrival : (T : ℕ) (stops : List Stop) → Every (λ s. s .departure ≤ T) stops → Every (λ s. s .arrival ≤ s .departure) stops → firstArrival stops ≤ T
   first-arrival T [] d a = omega arith
   first-arrival T (s ∷ l) d a = omega (arith, d .0, a .0)
 
@@ -191,8 +159,8 @@ module _ (C : Case) (sound : facts.Sound C) where
   module _ (bytes : ByteDelays C) where
     pub delay-low : (k d : ℕ) → pairAt C k d .delay ≤ 255
     delay-low k d =
-        facts-every.every-anywhere (λ p. p .delay ≤ 255) (getD (C .tables) k []) (record { delay = 0; weight = 0 }) (omega arith)
-        (facts-every.every-anywhere (facts.Every (λ p. p .delay ≤ 255)) (C .tables) [] tt bytes k) d
+        every-anywhere (λ p. p .delay ≤ 255) (getD (C .tables) k []) (record { delay = 0; weight = 0 }) (omega arith)
+        (every-anywhere (Every (λ p. p .delay ≤ 255)) (C .tables) [] tt bytes k) d
 
     pub waits-bounded : (k d : ℕ) → k < length (C .trains) → Bounded C (waits C k d)
     unfolding waits
@@ -202,11 +170,6 @@ module _ (C : Case) (sound : facts.Sound C) where
       free-outside = λ q. refl;
       in-time = omega (arith, sound .in-window, arrival-low k, delay-low k d);
     }
-
-    pub firstMarks-bounded : (x : List ℕ) → Every (Bounded C) (firstMarks C x)
-    unfolding firstMarks
-    firstMarks-bounded x =
-        every-map (λ k. k < length (C .trains)) (Bounded C) (λ k. waits C k (getD x k 0)) (λ k h. waits-bounded k (getD x k 0) h) (below (length (C .trains))) (every-below (length (C .trains)))
 
     pub firstList-bounded : AllBounded C (λ r. r .mark) (firstList C)
     unfolding firstList

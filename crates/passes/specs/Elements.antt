@@ -10,11 +10,11 @@ use Rattle.rules.specs.Lists.{fold, below}
 use Rattle.rules.specs.Files.{Case}
 use Rattle.rules.specs.Turns.{Place, same, Mark, Leg, way, after, ahead, headIs, elements, asks, State, state, row, Rules, visit}
 use Rattle.rules.specs.Turns.Place.{outside, station, track, gone}
-use Rattle.sound.specs.Facts.{Every, Sound}
-use Rattle.sound.specs.Ways.{same-true}
+use Rattle.lists.specs.Every.{Every, every-map, every-all}
+use Rattle.sound.specs.Facts.{Sound}
+use Rattle.sound.specs.Ways.{same-true, after-every}
 use Rattle.sound.specs.Trains.{Known, way-known}
 use Rattle.codes.specs.Codes.{placeOf}
-use Rattle.simulation.specs.Lists as each
 use Rattle.simulation.specs.Places.{asked}
 use Rattle.simulation.specs.Keeping.{items-start}
 use Rattle.simulation.specs.Runs.{serveAll-nobody}
@@ -22,14 +22,6 @@ use Rattle.passes.specs.Passes.{elementCodes}
 use Rattle.passes.specs.Lists.{fold-append, fold-map, fold-below}
 
 -- ---- who asks
-
-after-every : (P : Leg → Type 0) (p : Place) (ls : List Leg) → Every P ls → Every P (after p ls)
-after-every P p [] h = tt
-after-every P p (l ∷ ls) h = go (same (l .place) p) (after-every P p ls (h .1))
-  where
-    go : (b : Bool) → Every P (after p ls) → Every P (cond b ls (after p ls))
-    go true r = h .1
-    go false r = r
 
 head-every : (P : Place → Type 0) (e : Place) (ls : List Leg) → Every (λ l. P (l .place)) ls → headIs e ls ≡ true → P e
 head-every P e [] h q = absurd (false≢true q)
@@ -51,15 +43,15 @@ module _ (C : Case) (sound : Sound C) where
 
   module _ {A : Type 0} (R : Rules A) (t : ℕ) where
     -- an element for which nobody asks changes nothing
-    pub visit-nobody : (e : Place) (s : State A) → each.Every (λ a. asks C t e (R .mark a) ≡ false) (s .list) → visit C R t e s ≡ s
+    pub visit-nobody : (e : Place) (s : State A) → Every (λ a. asks C t e (R .mark a) ≡ false) (s .list) → visit C R t e s ≡ s
     unfolding visit
     visit-nobody e s h =
         serveAll-nobody C R (length (s .list)) t e (map (λ a. row a (asks C t e (R .mark a))) (s .list)) (s .arrived) (s .met)
-        (each.every-map (λ a. asks C t e (R .mark a) ≡ false) (λ r. r .asking ≡ false) (λ a. row a (asks C t e (R .mark a))) (λ a q. q) (s .list) h)
+        (every-map (λ a. asks C t e (R .mark a) ≡ false) (λ r. r .asking ≡ false) (λ a. row a (asks C t e (R .mark a))) (λ a q. q) (s .list) h)
         ∙ ap (λ (l : List A). state l (s .arrived) (s .met)) (items-start (λ a. asks C t e (R .mark a)) (s .list))
 
     pub visit-unknown : (e : Place) → (Known C e → ⊥) → (s : State A) → visit C R t e s ≡ s
-    visit-unknown e h s = visit-nobody e s (each.every-all (λ a. asks C t e (R .mark a) ≡ false) (λ a. go a (asks C t e (R .mark a)) refl) (s .list))
+    visit-unknown e h s = visit-nobody e s (every-all (λ a. asks C t e (R .mark a) ≡ false) (λ a. go a (asks C t e (R .mark a)) refl) (s .list))
       where
         go : (a : A) (b : Bool) → asks C t e (R .mark a) ≡ b → b ≡ false
         go a true q = absurd (h (asks-place t e (R .mark a) q))

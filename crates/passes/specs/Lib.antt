@@ -6,7 +6,6 @@ pub mod Walk
 pub mod Visit
 pub mod Elements
 pub mod Runs
-pub mod Room
 pub mod Pass
 pub mod Joint
 pub mod Before
@@ -14,4 +13,3 @@ pub mod Arrivals
 pub mod Alone
 pub mod Single
 pub mod Bounds
-pub mod Few

@@ -1,15 +1,15 @@
--- Laws of lists that the passes need: `fold`, counts and sums, those that pass a test, and the one that does.
+-- Laws of lists that the passes need: `fold`, sums, those that pass a test, and the one that does.
 -- Each is an induction on the list. Assumes nothing.
-use mathlib.Core.Path.{_≡_, refl, sym, ap, _∙_, subst}
-use mathlib.Core.Bool.{Bool, true, false, not, _||_, false≢true}
+use mathlib.Core.Path.{_≡_, refl, ap, _∙_}
+use mathlib.Core.Bool.{Bool, true, false, not}
 use mathlib.Core.List.{List, [], _∷_, _++_, map}
-use Prim.Native.Nat.{ℕ, zero, suc, _+_, _*_, _≤_}
+use Prim.Native.Nat.{ℕ, zero, suc, _+_, _≤_}
 use native.Mathlib.Omega.{arith}
 use lib.ListN.{length}
-use lib.Dec.{eqb}
-use borrow.Author.Tests.{eqb-true}
-use Rattle.rules.specs.Lists.{one, keep, any, tick, sum, count, fold, span, below, has}
-use Rattle.simulation.specs.Lists.{each-every, each-none, each-self, Every, any-every, count-none}
+use Rattle.rules.specs.Lists.{one, keep, tick, sum, count, fold, span, below}
+use Rattle.lists.specs.Each.{each-none, each-self}
+use Rattle.lists.specs.Every.{each-every, Every}
+use Rattle.lists.specs.Sums.{count-none}
 
 -- ---- fold
 
@@ -32,11 +32,6 @@ pub fold-agree {ℓ κ μ} : {A : Type ℓ} {S : Type κ} (P : S → Type μ) (f
 fold-agree P f g h k [] s p = refl
 fold-agree P f g h k (a ∷ l) s p = ap (fold f l) (h a s p) ∙ fold-agree P f g h k l (g a s) (k a s p)
 
--- steps that change nothing
-pub fold-still {ℓ κ} : {A : Type ℓ} {S : Type κ} (f : A → S → S) (s : S) → ((a : A) → f a s ≡ s) → (l : List A) → fold f l s ≡ s
-fold-still f s h [] = refl
-fold-still f s h (a ∷ l) = ap (fold f l) (h a) ∙ fold-still f s h l
-
 fold-span {κ} : {S : Type κ} (f : ℕ → S → S) (m n i : ℕ) → n ≤ m → ((j : ℕ) (s : S) → n + i ≤ j → f j s ≡ s) → (s : S) → fold f (span m i) s ≡ fold f (span n i) s
 fold-span f zero zero i h same s = refl
 fold-span f zero (suc n) i h same s = absurd (omega arith)
@@ -54,28 +49,7 @@ pub sum-ones : {A : Type 0} (l : List A) → sum {A = A} (λ a. 1) l ≡ length 
 sum-ones [] = refl
 sum-ones (a ∷ l) = omega (arith, sum-ones l)
 
-pub sum-span : (c n i : ℕ) → sum {A = ℕ} (λ j. c) (span n i) ≡ n * c
-sum-span c zero i = omega arith
-sum-span c (suc n) i = omega (arith, sum-span c n (suc i))
-
--- where one passes the test, at least one is counted
-pub any-count {ℓ} : {A : Type ℓ} (test : A → Bool) (l : List A) → any test l ≡ true → 1 ≤ count test l
-any-count test [] h = absurd (false≢true h)
-any-count test (a ∷ l) h = go (test a) h (any-count test l)
-  where
-    go : (b : Bool) → (b || any test l) ≡ true → (any test l ≡ true → 1 ≤ count test l) → 1 ≤ tick b + count test l
-    go true h ih = omega arith
-    go false h ih = omega (arith, ih h)
-
-pub sum-every : {A : Type 0} (P : A → Type 0) (f : A → ℕ) → ((a : A) → P a → 1 ≤ f a) → (l : List A) → Every P l → length l ≤ sum f l
-sum-every P f h [] e = omega arith
-sum-every P f h (a ∷ l) e = omega (arith, h a (e .0), sum-every P f h l (e .1))
-
 -- ---- those that pass a test
-
--- what every number of a list has, a number of it has
-pub has-every : (P : ℕ → Type 0) (l : List ℕ) → Every P l → (j : ℕ) → has l j ≡ true → P j
-has-every P l h j q = any-every (eqb j) P (P j) (λ i e p. subst P (sym (eqb-true j i e)) p) l h q
 
 pub keep-none : {A : Type 0} (test : A → Bool) (l : List A) → Every (λ a. test a ≡ false) l → keep test l ≡ []
 keep-none test l h = each-every (λ a. test a ≡ false) (λ a. one (test a) a) (λ a. []) (λ a q. ap (λ (z : Bool). one z a) q) l h ∙ each-none l

@@ -10,7 +10,7 @@ use Rattle.rules.specs.Turns.{Place, same, Mark, block, leaving, entered, arriv
 use Rattle.rules.specs.Turns.Place.{outside}
 use Rattle.rules.specs.Single.{enters, serveTrain, singleRules}
 use Rattle.rules.specs.Joint.{entry, Piece, pieces, serveEntry, jointRules}
-use Rattle.simulation.specs.Lists.{Every, every-map, every-each, every-all, every-one}
+use Rattle.lists.specs.Every.{Every, every-map, every-each, every-all, every-one}
 
 -- what an asker's mark and the marks with which it enters have, what comes of it in its row and at the end has
 abbrev pub Marks : {A : Type 0} → Case → Rules A → Type 1

@@ -13,9 +13,8 @@ use Rattle.rules.specs.Files.{Case}
 use Rattle.rules.specs.Turns.{Mark, stands, trainAt, sooner}
 use Rattle.rules.specs.Turns.Place.{outside}
 use Rattle.codes.specs.Tables.{insert, order}
-use Rattle.simulation.specs.Lists.{Every, every-more}
+use Rattle.lists.specs.Every.{Every, every-more, has-every}
 use Rattle.simulation.specs.Askers.{sooner-asym}
-use Rattle.passes.specs.Lists.{has-every}
 
 -- ---- one train before another
 
@@ -80,7 +79,7 @@ pub ordered-once : (C : Case) (k : ℕ) (ks : List ℕ) → Ordered C (k ∷ ks)
 ordered-once C k ks h = go (has ks k) refl
   where
     go : (b : Bool) → has ks k ≡ b → b ≡ false
-    go true q = absurd (false≢true (sym (earlier-self C k) ∙ has-every (λ j. earlier C k j ≡ true) ks (h .0) k q))
+    go true q = absurd (false≢true (sym (earlier-self C k) ∙ has-every (λ j. earlier C k j ≡ true) ks k (h .0) q))
     go false q = refl
 
 -- ---- putting a train among others

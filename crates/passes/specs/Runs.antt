@@ -6,7 +6,7 @@ use Prim.Native.Nat.{ℕ, zero, suc, _≤_}
 use native.Mathlib.Omega.{arith}
 use Rattle.rules.specs.Lists.{fold}
 use Rattle.rules.specs.Files.{Case}
-use Rattle.rules.specs.Turns.{Place, elements, State, state, Rules, visit, minute, minutes, runFrom}
+use Rattle.rules.specs.Turns.{Place, State, state, Rules, visit, minute, minutes, runFrom}
 use Rattle.sound.specs.Facts.{Sound}
 use Rattle.codes.specs.Codes.{placeOf}
 use Rattle.codes.specs.Tables.{order}
@@ -43,12 +43,6 @@ module _ {A : Type 0} (C : Case) (R : Rules A) (step : ℕ → Place → ℕ →
     -- a visit is the passes of all trains in order
     pub visit-steps : (t : ℕ) → t ≤ last → (e : Place) (s : State A) → P s → visit C R t e s ≡ fold (step t e) (order C) s
     visit-steps t h e s p = visit-walks C R t e own s ∙ fold-agree P (walkAll C R t e) (step t e) (agree t h e) (by-step t h e) (order C) s p
-
-    -- a minute is, after the ended blocks went, the passes for each element of the case
-    pub minute-steps : (t : ℕ) → t ≤ last → (s : State A) → P s → minute C R t s ≡ fold (λ e u. fold (step t e) (order C) u) (elements C) (cleared (R .mark) t s)
-    unfolding minute
-    minute-steps t h s p =
-        fold-agree P (visit C R t) (λ e u. fold (step t e) (order C) u) (visit-steps t h) (λ e u q. steps-keep t h e (order C) u q) (elements C) (cleared (R .mark) t s) (by-end t h s p)
 
     -- and it is the passes for the elements of all codes
     pub minute-codes : (t : ℕ) → t ≤ last → (s : State A) → P s → minute C R t s ≡ minutePasses C (R .mark) step t s

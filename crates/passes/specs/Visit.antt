@@ -15,13 +15,14 @@ use Rattle.rules.specs.Turns.{Place, same, Mark, Leg, absent, legs, way, after,
 use Rattle.rules.specs.Turns.Place.{outside}
 use Rattle.rules.specs.Turns.Turn.{somebody}
 use Rattle.codes.specs.Tables.{order}
-use Rattle.simulation.specs.Lists.{map-append, Every, every-append, every-map, every-all, every-more, count-le}
+use Rattle.lists.specs.Each.{map-append}
+use Rattle.lists.specs.Every.{Every, every-append, every-map, every-all, every-more, has-every}
+use Rattle.lists.specs.Sums.{count-le}
 use Rattle.simulation.specs.Askers.{Asking, next-first}
 use Rattle.simulation.specs.Places.{asked}
 use Rattle.simulation.specs.Keeping.{servedRows, servedList, items-start, items-served}
 use Rattle.simulation.specs.Runs.{askers, askers-served, serveAll-nobody}
-use Rattle.weights.specs.Tests.{and-true-first}
-use Rattle.passes.specs.Lists.{has-every}
+use Rattle.lists.specs.Tests.{and-true-first}
 use Rattle.passes.specs.Passes.{asksFor}
 use Rattle.passes.specs.Order.{earlier, sooner-trains, earlier-asym, earlier-self, Ordered, ordered-once, order-ordered, order-has}
 use Rattle.passes.specs.Marks.{Own}
@@ -60,7 +61,7 @@ module _ {A : Type 0} (C : Case) (R : Rules A) (t : ℕ) (e : Place) where
     rowsOf done rest new = flag ks done ++ (flag (k ∷ ks) rest ++ flag ks new)
 
     after-k : (m : Mark) → has ks (m .train) ≡ true → earlier C k (m .train) ≡ true
-    after-k m h = has-every (λ j. earlier C k j ≡ true) ks (sorted .0) (m .train) h
+    after-k m h = has-every (λ j. earlier C k j ≡ true) ks (m .train) (sorted .0) h
 
     not-before-k : (m : Mark) → has (k ∷ ks) (m .train) ≡ true → earlier C (m .train) k ≡ false
     not-before-k m h = go (eqb (m .train) k) refl h

@@ -1,7 +1,7 @@
 -- The askers of one train for one element, served one after another in list order, each against the list as it then stands: what serving keeps the walk
 -- keeps, it never shortens the list, and where it meets the room is told by its last list. Each law is an induction on the rows still to look at. Assumes nothing.
 use mathlib.Core.Path.{_≡_, refl, sym, ap, _∙_, subst}
-use mathlib.Core.Bool.{Bool, true, false, _&&_, cond, false≢true, and-false}
+use mathlib.Core.Bool.{Bool, true, false, _&&_, cond, false≢true}
 use mathlib.Core.List.{List, [], _∷_, _++_, append-assoc}
 use Prim.Native.Nat.{ℕ, zero, suc, _≤_}
 use native.Mathlib.Omega.{arith}
@@ -11,11 +11,11 @@ use borrow.Author.Tests.{eqb-true, ltb-true, ltb-false, lt-ltb, le-ltb}
 use Rattle.rules.specs.Refusals.{firstOf}
 use Rattle.rules.specs.Files.{Case}
 use Rattle.rules.specs.Turns.{Place, Mark, asks, Served, State, state, Rules}
-use Rattle.simulation.specs.Lists.{Every}
+use Rattle.lists.specs.Every.{Every}
 use Rattle.simulation.specs.Keeping.{servedList}
-use Rattle.weights.specs.Tests.{and-true-first}
-use Rattle.weights.specs.Longest.{passes, Grows}
-use Rattle.weights.specs.Trace.{first-assoc}
+use Rattle.lists.specs.Tests.{and-true-first}
+use Rattle.trace.specs.Longest.{passes, Grows}
+use Rattle.trace.specs.Trace.{first-assoc}
 use Rattle.passes.specs.Passes.{asksFor}
 
 -- ---- who asks
@@ -31,11 +31,6 @@ asksFor-asks C t e k m h = second (eqb (m .train) k) h
 pub asksFor-train : (C : Case) (t : ℕ) (e : Place) (k : ℕ) (m : Mark) → asksFor C t e k m ≡ true → m .train ≡ k
 unfolding asksFor
 asksFor-train C t e k m h = eqb-true (m .train) k (and-true-first (eqb (m .train) k) (asks C t e m) h)
-
--- a mark that does not ask is no asker of train k
-pub asksFor-not : (C : Case) (t : ℕ) (e : Place) (k : ℕ) (m : Mark) → asks C t e m ≡ false → asksFor C t e k m ≡ false
-unfolding asksFor
-asksFor-not C t e k m h = ap (λ (z : Bool). eqb (m .train) k && z) h ∙ and-false (eqb (m .train) k)
 
 -- ---- what is met
 

@@ -13,22 +13,23 @@ use borrow.Author.Tests.{leb-true, leb-false}
 use Rattle.rules.specs.Refusals.Result.{answer}
 use Rattle.rules.specs.Lists.{each, below}
 use Rattle.rules.specs.Files.{Track, Stop, Train, Case, byte, word, files}
-use Rattle.rules.specs.Turns.{Place, same, legs, trainAt, way, after, ahead, plannedOn}
-use Rattle.rules.specs.Turns.Place.{outside, station, track, gone}
+use Rattle.rules.specs.Turns.{same, legs, trainAt, way, after, ahead, plannedOn}
+use Rattle.rules.specs.Turns.Place.{outside}
 use Rattle.codes.specs.Codes.{codeOf, placeOf}
+use Rattle.codes.specs.Places.{Coded, code-place, outside-code, known-coded}
 use Rattle.codes.specs.Tables.{headCode, nextCode, stayOn, headTable, tables}
-use Rattle.sound.specs.Facts.{Every, Sound}
-use Rattle.sound.specs.Every.{every-map}
-use Rattle.sound.specs.Ways.{same-true}
-use Rattle.sound.specs.Trains.{Known, way-known, way-apart}
+use Rattle.lists.specs.Every.{Every, every-more}
+use Rattle.sound.specs.Facts.{Sound}
+use Rattle.sound.specs.Ways.{same-true, same-self}
+use Rattle.sound.specs.Trains.{way-known, way-apart}
 use Rattle.sound.specs.Accepted.{accepted-sound}
 use Rattle.fields.specs.Fields.{past}
 use Rattle.lookup.specs.declared.Sizes.{Sizes}
 use Rattle.lookup.specs.Answers.{sizesOf}
-use Rattle.plan.specs.Lists.{getD-below, length-span-map}
+use Rattle.lists.specs.Below.{getD-below, length-span-map}
 use Rattle.plan.specs.Model.{tracksFrom, walkNext, walkStay, firstStation, nextRow, stayRow, orderBy, priorityOf, headPart, trainRow, trainPart, pairPart, capacityPart, nextPart, stayPart, trackPlace, trainPlace, allParts}
 use Rattle.plan.specs.Walks.{walkNext-length, walkStay-length}
-use Rattle.plan.specs.Ways.{Coded, outside-code, next-at, next-outside, stay-at, stay-outside, start-low, start-high, code-place, same-refl}
+use Rattle.plan.specs.Ways.{next-at, next-outside, stay-at, stay-outside, start-low, start-high}
 use Rattle.plan.specs.Decoded.{Decoded, decoded}
 use Rattle.plan.specs.Parts.{count, few, train-at, train-none, rows-of, one-value, order-part, last-part, plan-part, first-part, number-part, delays-part, weights-part, capacities-part}
 
@@ -37,20 +38,14 @@ inside-code : (p : ℕ) → p ≤ 64 → same (placeOf p) outside ≡ false
 inside-code p h = go (same (placeOf p) outside) refl
   where
     go : (b : Bool) → same (placeOf p) outside ≡ b → b ≡ false
-    go true e = let z = sym (code-place p h) ∙ ap codeOf (same-true (placeOf p) outside e) in absurd (omega arith)
+    go true e = let z = sym (code-place p (omega arith)) ∙ ap codeOf (same-true (placeOf p) outside e) in absurd (omega arith)
     go false e = refl
 
 -- ---- the way of one train
 
 module _ (C : Case) (y : Sound C) (k : ℕ) where
   pub coded : Every (λ l. Coded (l .place)) (way C k)
-  coded = every-map (λ l h. known-coded (l .place) h) (way C k) (way-known C y k)
-    where
-      known-coded : (p : Place) → Known C p → Coded p
-      known-coded outside h = h
-      known-coded (station i) h = omega (arith, y .few-stations)
-      known-coded (track j) h = omega (arith, y .few-tracks)
-      known-coded gone h = tt
+  coded = every-more _ _ (λ l h. known-coded C y (l .place) h) (way C k) (way-known C y k)
 
   abbrev stops : List Stop
   stops = trainAt C k .stops
@@ -68,7 +63,7 @@ module _ (C : Case) (y : Sound C) (k : ℕ) where
           rw (inside-code p z) (sym (next-at (C .tracks) stops (way-apart C y k) coded begin p refl z (start-low (firstStation stops) p z)))
       go false e =
           let z = leb-false p 64 e in
-          rw (outside-code p z, same-refl outside) (sym (next-outside (C .tracks) stops (way-apart C y k) coded begin p z (start-high (firstStation stops) p z h)))
+          rw (outside-code p z, same-self outside) (sym (next-outside (C .tracks) stops (way-apart C y k) coded begin p z (start-high (firstStation stops) p z h)))
 
   pub next-row-same : map (nextCode C k) (below 128) ≡ walkNext (C .tracks) stops begin
   next-row-same =

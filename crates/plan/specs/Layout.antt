@@ -15,7 +15,7 @@ use Rattle.rules.specs.Refusals.{verdict}
 use Rattle.rules.specs.Refusals.Result.{answer}
 use Rattle.rules.specs.Files.{Head, Track, Stop, Train, Contents, File, fileNumber, byte, word, headOf, trackOf, stopOf, trainOf, known, inPlace, lengths, size, body, fieldRules, more, endRules, readField, readFields, empty, read}
 use Rattle.rules.specs.Files.File.{case}
-use Rattle.sound.specs.Every.{has-every}
+use Rattle.lists.specs.Every.{has-every}
 use Rattle.sound.specs.Verdicts.{answer-answer, unless-answer, Field, field-accepted, withField}
 use Rattle.sound.specs.Kept.{head-first}
 use Rattle.fields.specs.Fields.{past}

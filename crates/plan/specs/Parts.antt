@@ -20,7 +20,7 @@ use Rattle.codes.specs.Codes.{codeOf, placeOf}
 use Rattle.codes.specs.Tables.{insert, order, perTrain, perPair}
 use Rattle.fields.specs.Fields.{past}
 use Rattle.lookup.specs.Tables.{pairs-count}
-use Rattle.plan.specs.Lists.{getD-below, length-span-map}
+use Rattle.lists.specs.Below.{getD-below, length-span-map}
 use Rattle.plan.specs.Model.{onward, gather, rows, trackIn, trainIn, stopWord, pairsIn, tableIn, trainWord, pairWord, pairRow, capacityWord, priorityOf, insertBy, orderBy, trainRow, pairPart, capacityPart, trackPlace, trainPlace}
 use Rattle.plan.specs.Fills.{length-gather, getD-gather, onward-zero, order-length, pad-length}
 use Rattle.plan.specs.Layout.{stationIn, onward-add, span-gather}

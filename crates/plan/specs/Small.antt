@@ -11,19 +11,20 @@ use lib.Dec.{ltb}
 use borrow.Author.Tests.{ltb-true, ltb-false}
 use Rattle.rules.specs.Refusals.Result.{answer}
 use Rattle.rules.specs.Files.{Stop, Train, Case, byte, word, lastOf, files}
-use Rattle.rules.specs.Turns.{Place, same, Leg, absent, trainAt, way, after, ahead, plannedOn, capacity}
+use Rattle.rules.specs.Turns.{Place, same, Leg, absent, trainAt, way, after, ahead, capacity}
 use Rattle.rules.specs.Turns.Place.{outside, station, track, gone}
 use Rattle.rules.specs.Single.{pairAt, firstArrival}
 use Rattle.rules.specs.Figures.{plan}
 use Rattle.codes.specs.Codes.{placeOf}
 use Rattle.codes.specs.Tables.{headCode, nextCode, stayOn}
-use Rattle.sound.specs.Facts.{Every, Sound}
-use Rattle.sound.specs.Every.{every-map, every-anywhere, every-image}
-use Rattle.sound.specs.Trains.{way-planned, train-in-time}
+use Rattle.lists.specs.Every.{Every, every-more, every-anywhere, every-image}
+use Rattle.sound.specs.Facts.{Sound}
+use Rattle.sound.specs.Ways.{after-every}
+use Rattle.sound.specs.Trains.{way-planned, train-in-time, planned-low}
 use Rattle.fields.specs.Fields.{past, whole, bodyAt}
 use Rattle.lookup.specs.Lookup.{tablePlace, tableBytes}
 use Rattle.plan.specs.Model.{onward, trainIn, tableIn, pairsIn, pairWord, trainPlace}
-use Rattle.plan.specs.Ways.{Coded, coded-few}
+use Rattle.codes.specs.Places.{Coded, coded-small}
 use Rattle.plan.specs.Decoded.{Decoded, decoded}
 use Rattle.plan.specs.Parts.{train-at, train-none, pairs-none, delay-word}
 use Rattle.plan.specs.Agree.{coded}
@@ -113,28 +114,20 @@ module _ (C : Case) (y : Sound C) where
   small-weight : (k d : ℕ) → pairAt C k d .weight ≤ 100
   small-weight k d =
       every-anywhere (λ p. p .weight ≤ 100) (getD (C .tables) k []) (record { delay = 0; weight = 0 }) (omega arith)
-      (every-anywhere (Every (λ p. p .weight ≤ 100)) (C .tables) [] tt (every-map (λ ps z. z .light) (C .tables) (y .tables-sound)) k) d
+      (every-anywhere (Every (λ p. p .weight ≤ 100)) (C .tables) [] tt (every-more _ _ (λ ps z. z .light) (C .tables) (y .tables-sound)) k) d
 
   small-capacity : (e : Place) → capacity C e ≤ 255
   unfolding capacity
   small-capacity outside = omega arith
-  small-capacity (station i) = every-anywhere (λ c. c ≤ 255) (C .stations) 0 (omega arith) (every-map (λ c z. z .few) (C .stations) (y .stations-sound)) i
+  small-capacity (station i) = every-anywhere (λ c. c ≤ 255) (C .stations) 0 (omega arith) (every-more _ _ (λ c z. z .few) (C .stations) (y .stations-sound)) i
   small-capacity (track j) =
       every-anywhere (λ c. c ≤ 255) (map (λ t. t .capacity) (C .tracks)) 0 (omega arith)
-      (every-image (λ c. c ≤ 255) (λ t. t .capacity) (C .tracks) (every-map (λ t z. z .holds .few) (C .tracks) (y .tracks-sound))) j
+      (every-image (λ c. c ≤ 255) (λ t. t .capacity) (C .tracks) (every-more _ _ (λ t z. z .holds .few) (C .tracks) (y .tracks-sound))) j
   small-capacity gone = omega arith
 
   small-code : (ls : List Leg) → Every (λ l. Coded (l .place)) ls → headCode ls < 128
   small-code [] e = omega arith
-  small-code (l ∷ ls) e = let z = coded-few (l .place) (e .0) in omega arith
-
-  coded-after : (p : Place) (ls : List Leg) → Every (λ l. Coded (l .place)) ls → Every (λ l. Coded (l .place)) (after p ls)
-  coded-after p [] e = tt
-  coded-after p (l ∷ ls) e = go (same (l .place) p) (coded-after p ls (e .1))
-    where
-      go : (b : Bool) → Every (λ l. Coded (l .place)) (after p ls) → Every (λ l. Coded (l .place)) (cond b ls (after p ls))
-      go true r = e .1
-      go false r = r
+  small-code (l ∷ ls) e = let z = coded-small (l .place) (e .0) in omega arith
 
   small-next : (k p : ℕ) → nextCode C k p < 128
   unfolding nextCode ahead
@@ -142,27 +135,19 @@ module _ (C : Case) (y : Sound C) where
     where
       go : (b : Bool) → headCode (cond b (way C k) (after (placeOf p) (way C k))) < 128
       go true = small-code (way C k) (coded C y k)
-      go false = small-code (after (placeOf p) (way C k)) (coded-after (placeOf p) (way C k) (coded C y k))
-
-  planned-few : (T : ℕ) (p : Place) (ls : List Leg) → Every (λ l. l .planned ≤ T) ls → plannedOn p ls ≤ T
-  planned-few T p [] e = omega arith
-  planned-few T p (l ∷ ls) e = go (same (l .place) p) (planned-few T p ls (e .1))
-    where
-      go : (b : Bool) → plannedOn p ls ≤ T → cond b (l .planned) (plannedOn p ls) ≤ T
-      go true r = e .0
-      go false r = r
+      go false = small-code (after (placeOf p) (way C k)) (after-every (λ l. Coded (l .place)) (placeOf p) (way C k) (coded C y k))
 
   small-stay : (k e : ℕ) → stayOn C k e ≤ 719
   unfolding stayOn
   small-stay k e =
-      let z = planned-few (C .head .lastMinute) (placeOf e) (way C k) (way-planned C y k) in
+      let z = planned-low (C .head .lastMinute) (placeOf e) (way C k) (way-planned C y k) in
       omega (arith, y .in-window)
 
   -- no arrival of a train is past T
   arrivals : (k : ℕ) → Every (λ a. a .arrival ≤ 719) (trainAt C k .stops)
   arrivals k =
       every-anywhere (λ t. Every (λ a. a .arrival ≤ 719) (t .stops)) (C .trains) absent tt
-      (every-map (λ t z. both (t .stops) (z .stays) (train-in-time (length (C .stations)) (C .tracks) (C .head .lastMinute) t z)) (C .trains) (y .trains-sound)) k
+      (every-more _ _ (λ t z. both (t .stops) (z .stays) (train-in-time (length (C .stations)) (C .tracks) (C .head .lastMinute) t z)) (C .trains) (y .trains-sound)) k
     where
       both : (l : List Stop) → Every (λ a. a .arrival ≤ a .departure) l → Every (λ a. a .departure ≤ C .head .lastMinute) l → Every (λ a. a .arrival ≤ 719) l
       both [] e f = tt

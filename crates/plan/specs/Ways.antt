@@ -7,64 +7,23 @@ use Prim.Native.Nat.{ℕ, _+_, _-_, _≤_, _<_}
 use native.Mathlib.Omega.{arith}
 use lib.ListN.{length, getD, set, replicate, length-set, getD-replicate, List·getD-append}
 use lib.Seq.{getD-set-same, getD-set-other, getD-append-add}
-use lib.Dec.{ltb, eqb}
-use borrow.Author.Tests.{eq-eqb, ne-eqb, lt-ltb, le-ltb, ltb-false}
 use Rattle.rules.specs.Files.{Track, Stop}
 use Rattle.rules.specs.Turns.{Place, same, Leg, leg, legs, after, plannedOn}
-use Rattle.rules.specs.Turns.Place.{outside, station, track, gone}
-use Rattle.sound.specs.Facts.{Every}
-use Rattle.sound.specs.Every.{every-map}
-use Rattle.sound.specs.Ways.{same-true, Off, Apart}
+use Rattle.rules.specs.Turns.Place.{outside, station}
+use Rattle.lists.specs.Every.{Every}
+use Rattle.sound.specs.Ways.{same-true, same-self, Off, Apart}
 use Rattle.codes.specs.Codes.{codeOf, placeOf, nowhere}
+use Rattle.codes.specs.Places.{Coded, coded-few, place-code, code-place, outside-code}
 use Rattle.codes.specs.Tables.{headCode}
 use Rattle.plan.specs.Model.{trackCode, walkNext, walkStay, firstStation}
 
 -- ---- places and their codes
 
--- a place on a way whose code is its own
-abbrev pub Coded : Place → Type 0
-Coded outside = ⊥
-Coded (station i) = i < 24
-Coded (track j) = j < 40
-Coded gone = Unit {0}
-
-pub coded-few : (q : Place) → Coded q → codeOf q ≤ 64
-coded-few outside h = absurd h
-coded-few (station i) h = omega arith
-coded-few (track j) h = omega arith
-coded-few gone h = omega arith
-
-pub place-code : (q : Place) → Coded q → placeOf (codeOf q) ≡ q
-unfolding placeOf
-place-code outside h = absurd h
-place-code (station i) h = rw (lt-ltb i 24 h)
-place-code (track j) h =
-    let e : 24 + j - 24 ≡ j = omega arith in
-    rw (le-ltb (24 + j) 24 (omega arith), lt-ltb (24 + j) 64 (omega arith), e)
-place-code gone h = refl
-
-pub same-refl : (q : Place) → same q q ≡ true
-unfolding same
-same-refl outside = refl
-same-refl (station i) = eq-eqb i i refl
-same-refl (track j) = eq-eqb j j refl
-same-refl gone = refl
-
--- the code of the place with code p is p, up to the way out
-pub code-place : (p : ℕ) → p ≤ 64 → codeOf (placeOf p) ≡ p
-unfolding placeOf
-code-place p h = go (ltb p 24) refl (ltb p 64) refl
-  where
-    go : (a : Bool) → ltb p 24 ≡ a → (b : Bool) → ltb p 64 ≡ b → codeOf (cond a (station p) (cond b (track (p - 24)) (cond (eqb p 64) gone outside))) ≡ p
-    go true e b f = refl
-    go false e true f = let k = ltb-false p 24 e in omega arith
-    go false e false f = let k = ltb-false p 64 f in let q : p ≡ 64 = omega arith in rw (eq-eqb p 64 q) (sym q)
-
 code-same : (q : Place) (p : ℕ) → Coded q → p ≤ 64 → same q (placeOf p) ≡ true → codeOf q ≡ p
-code-same q p c h e = ap codeOf (same-true q (placeOf p) e) ∙ code-place p h
+code-same q p c h e = ap codeOf (same-true q (placeOf p) e) ∙ code-place p (omega arith)
 
 code-other : (q : Place) (p : ℕ) → Coded q → same q (placeOf p) ≡ false → p ≡ codeOf q → ⊥
-code-other q p c e h = true≢false (sym (rw (h, place-code q c) (same-refl q)) ∙ e)
+code-other q p c e h = true≢false (sym (rw (h, place-code q c) (same-self q)) ∙ e)
 
 -- ---- what is written along a way
 
@@ -80,11 +39,6 @@ module _ (f : Leg → Leg → ℕ) where
   valueAt d p [] = d
   valueAt d p (l ∷ []) = d
   valueAt d p (l ∷ (m ∷ ls)) = cond (same (l .place) p) (f l m) (valueAt d p (m ∷ ls))
-
-  pub writes-length : (ls : List Leg) (row : List ℕ) → length (writes ls row) ≡ length row
-  writes-length [] row = refl
-  writes-length (l ∷ []) row = refl
-  writes-length (l ∷ (m ∷ ls)) row = writes-length (m ∷ ls) (set row (codeOf (l .place)) (f l m)) ∙ length-set row (codeOf (l .place)) (f l m)
 
   -- a word that is no place's code stays
   pub writes-off : (p : ℕ) (ls : List Leg) (row : List ℕ) → Every (λ l. p ≡ codeOf (l .place) → ⊥) ls → getD (writes ls row) p 0 ≡ getD row p 0
@@ -108,7 +62,7 @@ module _ (f : Leg → Leg → ℕ) where
           both (x ∷ xs) o k = (
             (λ z.
                 let y : l .place ≡ x .place = sym (place-code (l .place) (c .0)) ∙ ap placeOf (q ∙ z) ∙ place-code (x .place) (k .0) in
-                true≢false (sym (same-refl (l .place)) ∙ ap (same (l .place)) y ∙ o .0)),
+                true≢false (sym (same-self (l .place)) ∙ ap (same (l .place)) y ∙ o .0)),
             both xs (o .1) (k .1),
           )
 
@@ -186,24 +140,23 @@ legs-end ts (a ∷ []) = refl
 legs-end ts (a ∷ (b ∷ [])) = refl
 legs-end ts (a ∷ (b ∷ (d ∷ l))) = legs-end ts (b ∷ (d ∷ l))
 
--- past the way out every code is the outside's
-pub outside-code : (p : ℕ) → 65 ≤ p → placeOf p ≡ outside
-unfolding placeOf
-outside-code p h = rw (le-ltb p 24 (omega arith), le-ltb p 64 (omega arith), ne-eqb p 64 (λ e. omega arith))
-
 -- nothing is on the outside
 planned-off : (p : Place) (ls : List Leg) → Off p ls → plannedOn p ls ≡ 0
 planned-off p [] o = refl
 planned-off p (l ∷ ls) o = go (same (l .place) p) refl (planned-off p ls (o .1))
   where
     go : (b : Bool) → same (l .place) p ≡ b → plannedOn p ls ≡ 0 → cond b (l .planned) (plannedOn p ls) ≡ 0
-    go true e r = absurd (true≢false (sym (same-refl p) ∙ ap (same p) (sym (same-true (l .place) p e)) ∙ o .0))
+    go true e r = absurd (true≢false (sym (same-self p) ∙ ap (same p) (sym (same-true (l .place) p e)) ∙ o .0))
     go false e r = r
 
 module _ (ts : List Track) (stops : List Stop) (a : Apart (leg outside 0 ∷ legs ts stops)) (c : Every (λ l. Coded (l .place)) (legs ts stops)) where
   -- no code of the way is past the way out
   beyond : (p : ℕ) → 65 ≤ p → Every (λ l. p ≡ codeOf (l .place) → ⊥) (legs ts stops)
-  beyond p h = every-map (λ l k e. let f = coded-few (l .place) k in omega arith) (legs ts stops) c
+  beyond p h = both (legs ts stops) (a .0) c
+    where
+      both : (ls : List Leg) → Off outside ls → Every (λ l. Coded (l .place)) ls → Every (λ l. p ≡ codeOf (l .place) → ⊥) ls
+      both [] o k = tt
+      both (l ∷ ls) o k = ((λ e. let f = coded-few (l .place) (k .0) (o .0) in omega arith), both ls (o .1) (k .1))
 
   pub next-at : (row : List ℕ) (p : ℕ) → length row ≡ 128 → p ≤ 64 → getD row p 0 ≡ nowhere → getD (walkNext ts stops row) p 0 ≡ headCode (after (placeOf p) (legs ts stops))
   next-at row p n h e = ap (λ (r : List ℕ). getD r p 0) (walk-next ts stops row) ∙ writes-at nextOf nowhere p (legs ts stops) row h n e (a .1) c ∙ value-next (placeOf p) (legs ts stops)

@@ -3,13 +3,11 @@
 use mathlib.Core.Path.{_≡_, _∙_}
 use mathlib.Core.List.{List, map}
 use Prim.Native.Nat.{ℕ, _+_, _*_, _≤_, _<_}
-use lib.ListN.{length, take, getD}
+use lib.ListN.{take, getD}
 use Rattle.rules.specs.Lists.{keep, sum}
-use Rattle.rules.specs.Refusals.{Result}
 use Rattle.rules.specs.Refusals.Result.{answer}
-use Rattle.rules.specs.Files.{Head, Case, files}
-use Rattle.rules.specs.Turns.{State}
-use Rattle.rules.specs.Joint.{Entry, choices, weightOf, joint}
+use Rattle.rules.specs.Files.{Case, files}
+use Rattle.rules.specs.Joint.{choices, weightOf, joint}
 use Rattle.simulation.specs.View.{Choice}
 use Rattle.simulation.specs.Simulation.{Simulates}
 use Rattle.weights.specs.Arrivals.{arrivesIn}

@@ -5,10 +5,9 @@ use mathlib.Core.Bool.{Bool, true, false}
 use mathlib.Core.List.{List, []}
 use Prim.Native.Nat.{ℕ}
 use Rattle.rules.specs.Lists.{each}
-use Rattle.rules.specs.Refusals.{Fault, number, Refusal, Result, refuse}
+use Rattle.rules.specs.Refusals.{number, Refusal, Result, refuse}
 use Rattle.rules.specs.Refusals.Fault.{tooShort}
 use Rattle.rules.specs.Refusals.Result.{refused, answer}
-use Rattle.rules.specs.Turns.{State}
 use Rattle.rules.specs.Calls.{Run, Memory, rowsBytes, weightsBytes, short, filled, rowImage, weightsImage, Lent, lent, call}
 
 abbrev pub memory : List ℕ → List ℕ → List ℕ → Memory

@@ -6,21 +6,21 @@ use mathlib.Core.List.{List, []}
 use Prim.Native.Nat.{ℕ, _≤_, _<_}
 use lib.ListN.{length, take}
 use Rattle.rules.specs.Lists.{keep, sum, any}
-use Rattle.rules.specs.Refusals.{Fault, Refusal, Result, refuse, then, Rule, _when_}
+use Rattle.rules.specs.Refusals.{Refusal, Result, refuse, then}
 use Rattle.rules.specs.Refusals.Result.{refused, answer}
-use Rattle.rules.specs.Files.{Head, Train, Case, files}
+use Rattle.rules.specs.Files.{Case, files}
 use Rattle.rules.specs.Turns.{State}
 use Rattle.rules.specs.Joint.{choices, weightOf, Entry, firstList, jointRules, joint, weightAt}
 use Rattle.rules.specs.Listing.{notArrived}
-use Rattle.rules.specs.Calls.{singleRun, Run, runTo, stoppedRun, wholeRun, trainRun, Memory, textBytes, textOf, short, Lent, call, runCall, listingCall, figuresCall}
-use Rattle.rules.specs.Figures.{Figures, figures}
+use Rattle.rules.specs.Calls.{Run, runTo, stoppedRun, wholeRun, trainRun, Memory, textBytes, textOf, short, Lent, call, runCall, listingCall, figuresCall}
+use Rattle.rules.specs.Figures.{figures}
 use Rattle.sound.specs.Accepted.{accepted-sound}
 use Rattle.sound.specs.Window.{files-window}
 use Rattle.simulation.specs.View.{Choice}
 use Rattle.simulation.specs.Simulation.{Simulates}
 use Rattle.weights.specs.Arrivals.{arrivesIn, arrivesNever}
-use Rattle.weights.specs.Trace.{runLists}
-use Rattle.weights.specs.Longest.{passes}
+use Rattle.trace.specs.Trace.{runLists}
+use Rattle.trace.specs.Longest.{passes}
 use Rattle.weights.specs.Room.{list-fits}
 use Rattle.demands.specs.Demands.{demand-3, demand-2, demand-2-later, demand-2-not-arrived, room-askers}
 use Rattle.promises.specs.Runs.{Answered, stopped-answer, whole-answer, train-answer}

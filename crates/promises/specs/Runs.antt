@@ -8,12 +8,11 @@ use native.Mathlib.Omega.{arith}
 use lib.ListN.{length}
 use lib.Dec.{leb, ltb}
 use borrow.Author.Tests.{ltb-false, leb-false}
-use Rattle.rules.specs.Refusals.{Rule, _when_, verdict, Refusal, Result, then, unless}
+use Rattle.rules.specs.Refusals.{_when_, verdict, Refusal, Result, then, unless}
 use Rattle.rules.specs.Refusals.Fault.{noTrain, stopTooLate}
 use Rattle.rules.specs.Refusals.Result.{refused, answer}
-use Rattle.rules.specs.Files.{Head, Train, Case, files}
-use Rattle.rules.specs.Turns.{State}
-use Rattle.rules.specs.Joint.{Entry, joint}
+use Rattle.rules.specs.Files.{Case, files}
+use Rattle.rules.specs.Joint.{joint}
 use Rattle.rules.specs.Calls.{afterArguments, noSuchTrain, Run, runTo, stoppedRun, wholeRun, trainRun}
 
 -- the files were accepted, and the run went to minute m and met no refusal

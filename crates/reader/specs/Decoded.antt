@@ -1,4 +1,4 @@
--- What an accepted file holds is what its whole fields say, one after another: each kind of thing is gathered from the places at which
+-- What an accepted file holds is what its whole fields say, one after another: things of a kind are gathered from the places at which
 -- the file's fields stand, by following the reading. Assumes nothing.
 use mathlib.Core.Path.{_≡_, refl, ap, sym, _∙_}
 use mathlib.Core.Bool.{Bool, true, false, cond, not}
@@ -12,7 +12,7 @@ use borrow.Author.Tests.{lt-ltb, le-ltb, le-leb, ltb-false, leb-true, leb-false}
 use Rattle.rules.specs.Lists.{one, each, has}
 use Rattle.rules.specs.Refusals.{verdict, firstOf, unless}
 use Rattle.rules.specs.Refusals.Result.{answer}
-use Rattle.rules.specs.Files.{File, Contents, byte, word, size, body, trackOf, trainOf, tableOf, fileNumber, known, inPlace, lengths, most, howMany, bodyRules, fieldRules, more, endRules, readField, readFields, empty, read}
+use Rattle.rules.specs.Files.{File, Contents, byte, word, size, body, trainOf, fileNumber, known, inPlace, lengths, most, howMany, bodyRules, fieldRules, more, endRules, readField, readFields, empty, read}
 use Rattle.bodies.specs.Bodies.{badLength}
 use Rattle.bodies.specs.Agree.{byte-drop, word-drop, length-agrees}
 use Rattle.fields.specs.Fields.{past, whole, bodyAt, placesFrom, places}
@@ -100,19 +100,6 @@ module _ (f : File) (l : List ℕ) where
     gathered d h e = gathered-from (suc (length l)) 0 empty d (omega arith) h ∙ ap (λ (x : List A). x ++ each (λ j. one (test j) (make j)) (placesFrom (suc (length l)) l 0)) e
 
   module _ (d : Contents) (h : read f l ≡ answer d) where
-    -- the stations' capacities, tracks, trains and tables, each from the fields of its tag, in the order of the file
-    pub stations-decoded : d .stations ≡ each (λ i. one (eqb (byte l i) 2) (byte (bodyAt l i) 0)) (places l)
-    unfolding more
-    stations-decoded = gathered (λ c. c .stations) (λ i. eqb (byte l i) 2) (λ i. byte (bodyAt l i) 0) (λ c i s. refl) d h refl
-
-    pub tracks-decoded : d .tracks ≡ each (λ i. one (eqb (byte l i) 3) (trackOf (bodyAt l i))) (places l)
-    unfolding more
-    tracks-decoded = gathered (λ c. c .tracks) (λ i. eqb (byte l i) 3) (λ i. trackOf (bodyAt l i)) (λ c i s. refl) d h refl
-
     pub trains-decoded : d .trains ≡ each (λ i. one (eqb (byte l i) 4) (trainOf i (bodyAt l i))) (places l)
     unfolding more
     trains-decoded = gathered (λ c. c .trains) (λ i. eqb (byte l i) 4) (λ i. trainOf i (bodyAt l i)) (λ c i s. refl) d h refl
-
-    pub tables-decoded : d .tables ≡ each (λ i. one (eqb (byte l i) 5) (tableOf (bodyAt l i))) (places l)
-    unfolding more
-    tables-decoded = gathered (λ c. c .tables) (λ i. eqb (byte l i) 5) (λ i. tableOf (bodyAt l i)) (λ c i s. refl) d h refl

@@ -125,15 +125,6 @@ five P (suc (suc (suc (suc zero)))) h k a b d e f = e
 five P (suc (suc (suc (suc (suc zero))))) h k a b d e f = f
 five P (suc (suc (suc (suc (suc (suc n)))))) h k a b d e f = absurd (omega arith)
 
-pub small-length : (tag n : ℕ) → (tag ≡ 0 → ⊥) → tag ≤ 5 → badLength tag n ≡ false → n ≤ 42
-small-length tag n h k =
-    five (λ t. badLength t n ≡ false → n ≤ 42) tag (omega arith) k
-    (λ q. let b = head-length n q in omega arith)
-    (λ q. let b = station-length n q in omega arith)
-    (λ q. let b = track-length n q in omega arith)
-    (λ q. train-length n q .1)
-    (λ q. let b = table-length n q in omega arith)
-
 module _ (l : List ℕ) (book : Bool) (s : Seen) (w : Within l s) where
   -- a sound frame keeps the counts
   within-after : (tag n x : ℕ) → Framed (length l) book s tag n → Within l (after s tag (s .at + 3 + n) x)

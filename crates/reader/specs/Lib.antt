@@ -10,4 +10,3 @@ pub mod Agree
 pub mod Final
 pub mod Decoded
 pub mod Stands
-pub mod Numbers

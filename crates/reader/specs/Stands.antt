@@ -1,22 +1,22 @@
--- Where an accepted case has its head, its stations and its tracks: at offsets that the counts alone tell, so that they can be read without
--- a walk. The state at the end of the reading says so, and the reading carries it there. Assumes nothing.
+-- Where an accepted case has its head: at its first field, so that it can be read without a walk. The state at the end of the reading says so,
+-- and the reading carries it there. Assumes nothing.
 use mathlib.Core.Path.{_≡_, refl, ap, sym, _∙_, subst}
 use mathlib.Core.Bool.{Bool, true, false, _||_, true≢false}
 use mathlib.Core.List.{List}
-use Prim.Native.Nat.{ℕ, zero, suc, _+_, _*_, _<_}
+use Prim.Native.Nat.{ℕ, zero, suc, _+_, _<_}
 use native.Mathlib.Omega.{arith}
-use lib.ListN.{length, getD, drop, drop-of-length-le}
+use lib.ListN.{length, drop, drop-of-length-le}
 use lib.Dec.{leb, eqb}
 use borrow.Author.Tests.{leb-true, leb-false, eq-eqb}
 use Rattle.rules.specs.Refusals.{verdict, firstOf, unless}
 use Rattle.rules.specs.Refusals.Result.{answer}
-use Rattle.rules.specs.Files.{File, Contents, byte, headOf, trackOf, fileNumber, endRules, more, readField, readFields, empty, read}
+use Rattle.rules.specs.Files.{File, Contents, headOf, fileNumber, endRules, more, readField, readFields, empty, read}
 use Rattle.rules.specs.Files.File.{case}
 use Rattle.reader.specs.declared.Seen.{Seen}
-use Rattle.reader.specs.Reading.{tagOf, sizeOf, bodyOf, fieldVerdict, base, next, start}
+use Rattle.reader.specs.Reading.{tagOf, sizeOf, bodyOf, fieldVerdict, next, start}
 use Rattle.reader.specs.Facts.{Within}
 use Rattle.reader.specs.Laws.{within-start, within-next}
-use Rattle.reader.specs.Holds.{isBook, noTrack, Holds}
+use Rattle.reader.specs.Holds.{isBook, Holds}
 use Rattle.reader.specs.More.{holds-next}
 use Rattle.reader.specs.Agree.{next-place, read-here, holds-start}
 
@@ -79,21 +79,3 @@ module _ (l : List ℕ) (d : Contents) (r : read case l ≡ answer d) where
 
   pub head-of : d .head ≡ headOf (drop 3 l)
   head-of = sym (ends case l d r .holds .of-file .head-stands headed)
-
-  -- the capacity of station j
-  pub station-of : (j : ℕ) → j < length (d .stations) → getD (d .stations) j 0 ≡ byte l (11 + 4 * j)
-  station-of j k =
-      let e = ends case l d r in
-      let n = e .holds .stations in
-      sym (e .holds .of-file .stations-stand j (omega arith))
-
-  -- track j
-  pub track-of : (j : ℕ) → j < length (d .tracks) → getD (d .tracks) j noTrack ≡ trackOf (drop (11 + 4 * length (d .stations) + 6 * j) l)
-  track-of j k =
-      let e = ends case l d r in
-      let n = e .holds .stations in
-      let m = e .holds .tracks in
-      let z = headed in
-      let o = e .inside .one-head in
-      let p : base (e .seen) + 6 * j + 3 ≡ 11 + 4 * length (d .stations) + 6 * j = omega arith in
-      sym (e .holds .of-file .tracks-stand j (omega arith)) ∙ ap (λ (i : ℕ). trackOf (drop i l)) p

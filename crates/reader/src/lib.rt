@@ -4,7 +4,7 @@ use fields::refusals;
 ghost use mathlib.Core.Path.{_≡_};
 ghost use mathlib.Core.Bool.{false};
 ghost use Prim.Native.Nat.{_+_, _*_, _≤_, _<_};
-ghost use lib.ListN.{length, getD};
+ghost use lib.ListN.{length};
 ghost use Rattle.bodies.specs.Bodies.{badLength};
 ghost use Rattle.reader.specs.Reading.{outOfPlace, tooMany, frameVerdict, bodyVerdict, fieldVerdict, counted, newer, after, next, fieldOf, stopped, countsSeen, atEnd, reading};
 ghost use Rattle.rules.specs.Files as files;

@@ -2,7 +2,7 @@
 use mathlib.Core.Path.{_≡_}
 use mathlib.Core.Bool.{Bool, false, not, cond}
 use mathlib.Core.List.{List, [], _∷_, map}
-use Prim.Native.Nat.{ℕ, _+_, _*_, _/_, _%_, min}
+use Prim.Native.Nat.{ℕ, _+_, _*_, _/_, _%_, min, _≤_}
 use lib.ListN.{length, take, getD}
 use lib.Seq.{sets}
 use lib.Dec.{ltb, eqb}
@@ -38,6 +38,11 @@ rowAt l i = row (getD l (i * 2) 0) (getD l (i * 2 + 1) 0)
 pub record Put (out : List ℕ) (w : ℕ) (L : List ℕ) (r : ℕ) (out′ : List ℕ) : Type 0 where
   pub place : r ≡ min (w + length L) (length out)
   pub list : out′ ≡ sets out w L
+
+-- the first r words of the lent ones are the list L
+pub record Begins (L : List ℕ) (r : ℕ) (out : List ℕ) : Type 0 where
+  pub few : r ≤ length out
+  pub list : take r out ≡ L
 
 -- ---- what a state shows
 

@@ -26,7 +26,7 @@ module _ {t i : ℕ} {was : List ℕ} {j : ℕ} {rows : List ℕ} (h : Closing t
   same-word d = sym (getD-drop (i * 2) rows d 0) ∙ ap (λ (l : List ℕ). getD l d 0) (h .rest) ∙ getD-drop (i * 2) was d 0
 
   -- the next row is the one that stood there
-  next-row : rowAt rows i ≡ rowAt was i
+  pub next-row : rowAt rows i ≡ rowAt was i
   next-row =
       let z : i * 2 ≡ i * 2 + 0 = omega arith in
       ap₂ (λ (s c : ℕ). row s c) (ap (λ (n : ℕ). getD rows n 0) z ∙ same-word 0 ∙ ap (λ (n : ℕ). getD was n 0) (sym z)) (same-word 1)

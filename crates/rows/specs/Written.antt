@@ -1,17 +1,20 @@
 -- Laws of rows as words, and of what is written from a place on: what one call writes after another is what both write together.
 -- A write past the end changes nothing, so no law asks whether there is room. Assumes nothing.
 use mathlib.Core.Path.{_≡_, refl, ap, sym, _∙_, subst}
-use mathlib.Core.Bool.{Bool, true, false}
+use mathlib.Core.Bool.{Bool, true, false, not, cond}
 use mathlib.Core.List.{List, [], _∷_, _++_, map, append-nil, append-assoc}
-use Prim.Native.Nat.{ℕ, zero, suc, _+_, _*_, min, _≤_, _<_}
+use Prim.Native.Nat.{ℕ, zero, suc, _+_, _-_, _*_, _/_, _%_, min, _≤_, _<_}
 use native.Mathlib.Decide.{decLe}
 use native.Mathlib.Omega.{arith}
+use lib.Dec.{eqb}
+use borrow.Author.Tests.{eq-eqb, ne-eqb}
 use lib.ListN.{length, take, drop, getD, set, length-append, take-append-drop}
-use lib.Seq.{sets, slice, length-sets, sets-eq, set-out, take-suc, take-take, length-take-le, take-append-seam, drop-append-le}
+use lib.Seq.{sets, slice, length-sets, sets-eq, set-out, take-suc, take-take, take-set-le, take-suc-set, length-slice, length-take-le, take-append-seam, drop-append-le}
 use Rattle.rules.specs.Lists.{one, each}
-use Rattle.simulation.specs.Lists.{each-append, map-append, Every, every-left, every-right}
+use Rattle.lists.specs.Each.{each-append, map-append}
+use Rattle.lists.specs.Every.{Every, every-left, every-right}
 use Rattle.cut.specs.Lists.{sets-append}
-use Rattle.rows.specs.Rows.{Row, row, rowsOf, words, rowsIn, rowAt, Put, heldRows, enteredRows}
+use Rattle.rows.specs.Rows.{Row, row, rowsOf, words, rowsIn, rowAt, Put, meetsOf, metOf, heldRows, enteredRows}
 
 -- ---- rows and words
 
@@ -147,6 +150,13 @@ put-taken {l} {w} {L} {r} {l′} h fits =
 pub put-start : {l : List ℕ} {L : List ℕ} {r : ℕ} {l′ : List ℕ} → Put l 0 L r l′ → length L ≤ length l → take r l′ ≡ L
 put-start {l} {L} {r} {l′} h fits = put-taken h (omega arith)
 
+-- a word at the place after the list counts or does not
+pub begins-more : (out L : List ℕ) (w c : ℕ) (b : Bool) → w < length out → take w out ≡ L → take (w + length (one b c)) (set out w c) ≡ L ++ one b c
+begins-more out L w c true h k =
+    let e : w + 1 ≡ suc w = omega arith in
+    ap (λ (n : ℕ). take n (set out w c)) e ∙ take-suc-set out w c h ∙ ap (λ (z : List ℕ). z ++ (c ∷ [])) k
+begins-more out L w c false h k = let e : w + 0 ≡ w = omega arith in ap (λ (n : ℕ). take n (set out w c)) e ∙ take-set-le w out w c (omega arith) ∙ k ∙ sym (append-nil L)
+
 -- ---- parts of a list
 
 pub slice-more : (a i : ℕ) (l : List ℕ) → a ≤ i → i < length l → slice a (i + 1) l ≡ slice a i l ++ (getD l i 0 ∷ [])
@@ -155,6 +165,47 @@ slice-more a i l h k =
     ap (λ (z : ℕ). drop a (take z l)) e
     ∙ ap (drop a) (take-suc l i 0 k)
     ∙ drop-append-le a (take i l) (getD l i 0 ∷ []) (omega (arith, length-take-le i l (omega arith)))
+
+-- the rows from row i on, with one row more
+pub slice-rows-more : (i j : ℕ) (l : List ℕ) → i ≤ j → j * 2 + 2 ≤ length l → rowsOf (slice (i * 2) ((j + 1) * 2) l) ≡ rowsOf (slice (i * 2) (j * 2) l) ++ (rowAt l j ∷ [])
+unfolding rowsOf
+slice-rows-more i j l h long =
+    let n : (j + 1) * 2 ≡ j * 2 + 1 + 1 = omega arith in
+    ap (λ (z : ℕ). rowsOf (slice (i * 2) z l)) n
+    ∙ ap rowsOf (slice-more (i * 2) (j * 2 + 1) l (omega arith) (omega arith) ∙ ap (λ (z : List ℕ). z ++ (getD l (j * 2 + 1) 0 ∷ [])) (slice-more (i * 2) (j * 2) l (omega arith) (omega arith))
+    ∙ append-assoc (slice (i * 2) (j * 2) l) (getD l (j * 2) 0 ∷ []) (getD l (j * 2 + 1) 0 ∷ []))
+    ∙ rowsOf-append (j - i) (slice (i * 2) (j * 2) l) (getD l (j * 2) 0 ∷ getD l (j * 2 + 1) 0 ∷ []) (length-slice (i * 2) (j * 2) l (omega arith) ∙ omega arith)
+
+pub slice-split : (a m z : ℕ) (l : List ℕ) → a ≤ m → m ≤ z → z ≤ length l → slice a z l ≡ slice a m l ++ slice m z l
+slice-split a m z l h k long =
+    ap (drop a) (sym (take-append-drop m (take z l)))
+    ∙ ap (λ (x : List ℕ). drop a (x ++ slice m z l)) (take-take m z l k)
+    ∙ drop-append-le a (take m l) (slice m z l) (omega (arith, length-take-le m l (omega arith)))
+
+pub one-few : (b : Bool) (c : ℕ) → length (one b c) ≤ 1
+one-few true c = omega arith
+one-few false c = omega arith
+
+-- a row at the place is met unless it is the train's own, and a row elsewhere is not
+pub met-offered : (e k i w : ℕ) (l out : List ℕ) → i * 2 + 2 ≤ length l → getD l (i * 2) 0 / 4096 % 128 ≡ e → w < length out → take w out ≡ metOf e k (rowsIn i l)
+    → take (w + length (one (not (eqb (getD l (i * 2) 0 / 524288) k)) (getD l (i * 2 + 1) 0))) (set out w (getD l (i * 2 + 1) 0)) ≡ metOf e k (rowsIn (i + 1) l)
+unfolding metOf meetsOf
+met-offered e k i w l out long here room before =
+    begins-more out (metOf e k (rowsIn i l)) w (getD l (i * 2 + 1) 0) (not (eqb (getD l (i * 2) 0 / 524288) k)) room before
+    ∙ ap (λ (b : Bool). metOf e k (rowsIn i l) ++ one (cond b (not (eqb (getD l (i * 2) 0 / 524288) k)) false) (getD l (i * 2 + 1) 0)) (sym (eq-eqb (getD l (i * 2) 0 / 4096 % 128) e here))
+    ∙ sym (each-more (λ r. one (meetsOf e k (r .state)) (r .cover)) i l long)
+
+pub met-passed : (e k i : ℕ) (l : List ℕ) → i * 2 + 2 ≤ length l → (getD l (i * 2) 0 / 4096 % 128 ≡ e → ⊥) → metOf e k (rowsIn (i + 1) l) ≡ metOf e k (rowsIn i l)
+unfolding metOf meetsOf
+met-passed e k i l long away =
+    each-left (λ r. r .cover) (λ r. meetsOf e k (r .state)) i l long
+    (ap (λ (b : Bool). cond b (not (eqb (getD l (i * 2) 0 / 524288) k)) false) (ne-eqb (getD l (i * 2) 0 / 4096 % 128) e away))
+
+-- what has filled the lent memory is as much as can be written of more
+pub put-filled : {l : List ℕ} {d : ℕ} {r : ℕ} {l′ : List ℕ} (a m z : ℕ) (from : List ℕ) → a ≤ m → m ≤ z → z ≤ length from → Put l d (slice a m from) r l′ → r ≡ length l
+    → Put l d (slice a z from) r l′
+put-filled {l} {d} {r} {l′} a m z from h k long f e =
+    subst (λ (x : List ℕ). Put l d x r l′) (sym (slice-split a m z from h k long)) (put-join f (put-full l′ r (slice m z from) (e ∙ sym (put-length f))))
 
 pub take-more : (i : ℕ) (l : List ℕ) → i < length l → take (i + 1) l ≡ take i l ++ (getD l i 0 ∷ [])
 take-more i l h = let e : i + 1 ≡ suc i = omega arith in ap (λ (z : ℕ). take z l) e ∙ take-suc l i 0 h

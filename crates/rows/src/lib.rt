@@ -1,21 +1,13 @@
-// Rows of two words, a state and a packed cover, in lent slices: reading, sweeping, gathering, copying and appending.
+// Rows of two words, a state and a packed cover, in lent slices: gathering, copying and appending.
 ghost use mathlib.Core.Path.{_≡_};
+ghost use mathlib.Core.Bool.{not};
 ghost use mathlib.Core.List.{_∷_, []};
-ghost use Prim.Native.Nat.{_+_, _*_, _≤_, _<_};
-ghost use lib.ListN.{length, take, getD};
+ghost use Prim.Native.Nat.{_+_, _*_, _/_, _≤_, _<_};
+ghost use lib.ListN.{length, take, set};
+ghost use lib.Dec.{eqb};
 ghost use lib.Seq.{slice};
-ghost use Rattle.rows.specs.Rows.{words, rowsIn, Put, endedOf, meetsOf, metOf, sweptOf, heldRows, enteredRows};
-
-// The word at i, or 0 past the end.
-pub fn at(l: &[u64], i: u64) -> u64
-    ensures { λ r. ⌜ r ≡ getD (now (l .entry)) i 0 ⌝ }
-{
-    let j = i as usize;
-    if j < l.len() {
-        return l[j];
-    }
-    0
-}
+ghost use Rattle.rules.specs.Lists.{one};
+ghost use Rattle.rows.specs.Rows.{words, rowsIn, Put, Begins, endedOf, metOf, heldRows, enteredRows};
 
 // One word more, where there is room.
 pub fn put(out: &mut [u64], w: usize, x: u64) -> usize
@@ -48,66 +40,50 @@ pub fn ended(s: u64, t: u64) -> bool
     false
 }
 
-// Drops the blocks whose end is before t from the first n rows and closes up. Returns how many rows are left.
-pub fn sweep(rows: &mut [u64], n: usize, t: u64) -> usize
-    requires { ⌜ n * 2 ≤ length (now rows) ⌝ }
-    ensures { λ r. ⌜ (r ≤ n) × (rowsIn r (now (rows .exit)) ≡ sweptOf t (rowsIn n (now (rows .entry)))) ⌝ }
+// The cover c of a row of the state s is written at w, and counts if it is another train's than k.
+pub fn offer(out: &mut [u64], w: usize, s: u64, c: u64, k: u64) -> usize
+    requires { ⌜ w < length (now out) ⌝ }
+    ensures { λ r. ⌜ (now (out .exit) ≡ set (now (out .entry)) w c) × (r ≡ w + length (one (not (eqb (s / 524288) k)) c)) ⌝ }
 {
-    let mut i = 0;
-    let mut j = 0;
-    while i < n {
-        let s = rows[i * 2];
-        let c = rows[i * 2 + 1];
-        if !ended(s, t) {
-            rows[j * 2] = s;
-            rows[j * 2 + 1] = c;
-            j += 1;
-        }
-        i += 1;
+    out[w] = c;
+    if s / 524288 == k {
+        return w;
     }
-    j
+    w + 1
 }
 
-// Whether s is a state of another train than k at the place with code e.
-pub fn meets(s: u64, e: u64, k: u64) -> bool
-    ensures { λ r. ⌜ r ≡ meetsOf e k s ⌝ }
-{
-    if s / 4096 % 128 == e {
-        return s / 524288 != k;
-    }
-    false
-}
-
-// The covers that train k meets at e among the first n rows.
+// The covers that train k meets at e among the first n rows, from the start of `out` on.
 pub fn gather(rows: &[u64], n: usize, e: u64, k: u64, out: &mut [u64]) -> usize
-    requires { ⌜ n * 2 ≤ length (now rows) ⌝ }
-    ensures { λ r. ⌜ Put (now (out .entry)) 0 (metOf e k (rowsIn n (now (rows .entry)))) r (now (out .exit)) ⌝ }
+    requires { ⌜ (n * 2 ≤ length (now rows)) × (n ≤ length (now out)) ⌝ }
+    ensures { λ r. ⌜ Begins (metOf e k (rowsIn n (now (rows .entry)))) r (now (out .exit)) ⌝ }
 {
     let mut i = 0;
     let mut w = 0;
     while i < n {
         let s = rows[i * 2];
-        let c = rows[i * 2 + 1];
-        if meets(s, e, k) {
-            w = put(out, w, c);
+        if s / 4096 % 128 == e {
+            w = offer(out, w, s, rows[i * 2 + 1], k);
         }
         i += 1;
     }
     w
 }
 
-// The words of `from` from a up to z, from the start of `out` on.
-pub fn copy(from: &[u64], a: usize, z: usize, out: &mut [u64]) -> usize
-    requires { ⌜ (a ≤ z) × (z ≤ length (now from)) ⌝ }
-    ensures { λ r. ⌜ Put (now (out .entry)) 0 (slice a z (now (from .entry))) r (now (out .exit)) ⌝ }
+// The words of `from` from a up to z, from the place d of `out` on, as far as there is room.
+pub fn copy(from: &[u64], a: usize, z: usize, out: &mut [u64], d: usize) -> usize
+    requires { ⌜ (a ≤ z) × (z ≤ length (now from)) × (d ≤ length (now out)) ⌝ }
+    ensures { λ r. ⌜ Put (now (out .entry)) d (slice a z (now (from .entry))) r (now (out .exit)) ⌝ }
 {
-    let mut i = a;
-    let mut w = 0;
-    while i < z {
-        w = put(out, w, from[i]);
+    let mut n = z - a;
+    if out.len() - d < n {
+        n = out.len() - d;
+    }
+    let mut i = 0;
+    while i < n {
+        out[d + i] = from[a + i];
         i += 1;
     }
-    w
+    d + n
 }
 
 // The first n covers as rows of the state s, from the place w on.

@@ -2,7 +2,7 @@
 use mathlib.Core.Path.{_≡_}
 use mathlib.Core.Bool.{Bool, cond}
 use mathlib.Core.List.{List, [], _∷_, _++_}
-use Prim.Native.Nat.{ℕ, _+_, _*_, min, _≤_, _<_}
+use Prim.Native.Nat.{ℕ, _+_, _*_, _/_, min, _≤_, _<_}
 use lib.ListN.{length, take, getD}
 use lib.Seq.{sets}
 use Rattle.rules.specs.Lists.{each}
@@ -22,6 +22,13 @@ holdBy test cap es r = cond (test r) (heldRows (r .state) (heldOf (carried cap e
 -- the covers of a row that enter
 abbrev pub enterBy : (Row → Bool) → ℕ → List ℕ → Row → List ℕ
 enterBy test cap es r = cond (test r) (enteringOf (carried cap es 0 (r .cover))) []
+
+-- all covers that enter, and the rows after the pass: held pieces in their row's place, and what entered at the end
+abbrev pub coversBy : (Row → Bool) → Job → List Row → List ℕ
+coversBy test q l = each (enterBy test (q .cap) (metFor q l)) l
+
+abbrev pub passBy : (Row → Bool) → Job → List Row → List Row
+passBy test q l = each (holdBy test (q .cap) (metFor q l)) l ++ enteredRows (q .stands) (q .blocks) (q .two) (coversBy test q l)
 
 -- the same where each row that asks is served
 unfoldable pub holdRow : List ℕ → Job → List ℕ → Row → List Row
@@ -80,6 +87,15 @@ pub record Passed (L : List Row) (A : List ℕ) (r : Ends) (rows entering : List
   pub list : r .place < length rows → take (r .place) rows ≡ words L
   pub few : r .entering ≤ length entering
   pub covers : r .place < length rows → take (r .entering) entering ≡ A
+
+-- lent memory that is long enough for a pass
+pub record Space (rows tmp met held entering : List ℕ) : Type 0 where
+  pub some : 2 ≤ length rows
+  pub even : length rows / 2 * 2 ≡ length rows
+  pub tmp-long : length rows ≤ length tmp
+  pub met-long : length rows ≤ length met * 2
+  pub held-long : length rows ≤ length held * 2
+  pub entering-long : length rows ≤ length entering * 2
 
 -- the lent memory: rows for one more than the room, a copy of them, the covers met, and held and entering pieces
 pub record Lent (T rows tmp met held entering : List ℕ) : Type 0 where

@@ -1,47 +1,38 @@
--- The pass in code is the pass of the definitions on rows: what stands before the first asker stays, what comes after it is walked, and what entered is
--- put at the end. Rows that do not ask are held as they are and bring nothing in. Assumes nothing.
+-- The pass in code is the pass of the definitions on rows, for any test of who is served: what stands before the first of them stays, what comes after it
+-- is walked run by run, and what entered is put at the end. Rows that are not served are held as they are and bring nothing in. Assumes nothing.
 use mathlib.Core.Path.{_≡_, refl, ap, ap₂, sym, _∙_, subst}
 use mathlib.Core.Bool.{Bool, true, false, cond}
 use mathlib.Core.List.{List, [], _∷_, _++_, append-assoc}
 use Prim.Native.Nat.{ℕ, suc, _+_, _-_, _*_, _≤_, _<_}
 use native.Mathlib.Omega.{arith}
-use lib.ListN.{length, take, length-append}
+use lib.ListN.{length, take, getD, length-append}
 use lib.Seq.{slice, length-slice}
-use lib.Dec.{ltb}
 use Rattle.rules.specs.Lists.{one, each}
-use lib.Bits.{bitAnd}
-use Rattle.simulation.specs.Lists.{each-append, Every, every-append, every-more}
-use Rattle.cut.specs.Cut.{fullOf}
+use Rattle.lists.specs.Each.{each-append}
+use Rattle.lists.specs.Every.{each-every, Every, every-append, every-more}
+use Rattle.cut.specs.Cut.{carried, heldOf, enteringOf}
 use Rattle.quiet.specs.Parts.{Sub, sub-trans}
-use Rattle.rows.specs.Rows.{Row, row, words, rowsOf, rowsIn, rowAt, Put, meetsOf, metOf, enteredRows}
-use Rattle.rows.specs.Written.{words-append, words-length, rowsIn-words, rowsIn-length, rowsIn-more, rows-split, put-join, put-length, put-start, put-taken}
+use Rattle.rows.specs.Rows.{Row, row, words, rowsOf, rowsIn, rowAt, Put, Begins, heldRows, enteredRows}
+use Rattle.rows.specs.Written.{words-append, words-length, rowsIn-words, words-rowsOf, rowsIn-length, rowsIn-more, each-more, rows-split, put-join, put-length, put-start, put-taken}
 use Rattle.asking.specs.declared.Job.{Job}
 use Rattle.serving.specs.declared.Ends.{Ends}
-use Rattle.asking.specs.Ask.{askingOf, metFor, stirredOf}
-use Rattle.serving.specs.Pass.{holdStirred, enterStirred, stirredCovers, stirredPass, Went, Two, Passed, Lent}
+use Rattle.asking.specs.Ask.{metFor}
+use Rattle.serving.specs.Pass.{holdBy, enterBy, coversBy, passBy, Went, Two, Passed, Space, Lent}
 use Rattle.serving.specs.Pass.Went.{as-it-is, moves}
 use Rattle.serving.specs.Pass.Two.{fits, over}
-use Rattle.serving.specs.Outputs.{came-taken, two-bounds}
+use Rattle.serving.specs.Outputs.{came-taken, two-bounds, two-row, two-join}
 
--- ---- rows that do not ask
+-- ---- lent memory
 
-none-stirred : (T : List ℕ) (q : Job) (u : ℕ) (r : Row) → askingOf T q r ≡ false → stirredOf T q u r ≡ false
-unfolding stirredOf
-none-stirred T q u r h = ap (λ (b : Bool). cond b (fullOf 8 (bitAnd (r .cover) u)) false) h
-
-hold-quiet : (T : List ℕ) (q : Job) (u : ℕ) (es : List ℕ) (rs : List Row) → Every (λ x. askingOf T q x ≡ false) rs → each (holdStirred T q u es) rs ≡ rs
-hold-quiet T q u es [] h = refl
-hold-quiet T q u es (r ∷ rs) h = rw (none-stirred T q u r (h .0)) (ap (λ (l : List Row). r ∷ l) (hold-quiet T q u es rs (h .1)))
-
-enter-quiet : (T : List ℕ) (q : Job) (u : ℕ) (es : List ℕ) (rs : List Row) → Every (λ x. askingOf T q x ≡ false) rs → each (enterStirred T q u es) rs ≡ []
-enter-quiet T q u es [] h = refl
-enter-quiet T q u es (r ∷ rs) h = rw (none-stirred T q u r (h .0)) (enter-quiet T q u es rs (h .1))
-
-went-quiet : (T : List ℕ) (q : Job) (u : ℕ) (es : List ℕ) (moved : ℕ) (rs : List Row) → Every (λ x. askingOf T q x ≡ false) rs
-    → Every (λ x. Went (holdStirred T q u es x) (enterStirred T q u es x) moved x) rs
-went-quiet T q u es moved rs h =
-    every-more (λ x. askingOf T q x ≡ false) (λ x. Went (holdStirred T q u es x) (enterStirred T q u es x) moved x)
-    (λ x k. rw (none-stirred T q u x k) (as-it-is refl refl)) rs h
+pub lent-space : {T rows tmp met held entering : List ℕ} → Lent T rows tmp met held entering → Space rows tmp met held entering
+lent-space l = record {
+  some = omega (arith, l .rows-are);
+  even = omega (arith, l .rows-are);
+  tmp-long = l .tmp-long;
+  met-long = l .met-long;
+  held-long = l .held-long;
+  entering-long = l .entering-long;
+}
 
 -- ---- all that moved
 
@@ -49,34 +40,100 @@ went-grows : {hold : List Row} {enter : List ℕ} (m n : ℕ) (r : Row) → Sub 
 went-grows m n r s (as-it-is a b) = as-it-is a b
 went-grows m n r s (moves k) = moves (sub-trans (r .cover) m n k s)
 
--- with one row more
-pub went-more : (T : List ℕ) (q : Job) (u : ℕ) (es : List ℕ) (i : ℕ) (l : List ℕ) (m n : ℕ) → i * 2 + 2 ≤ length l → Sub m n
-    → Every (λ x. Went (holdStirred T q u es x) (enterStirred T q u es x) m x) (rowsIn i l)
-    → Went (holdStirred T q u es (rowAt l i)) (enterStirred T q u es (rowAt l i)) n (rowAt l i)
-    → Every (λ x. Went (holdStirred T q u es x) (enterStirred T q u es x) n x) (rowsIn (i + 1) l)
-went-more T q u es i l m n long s h w =
-    rw (rowsIn-more i l long)
-    (every-append (λ x. Went (holdStirred T q u es x) (enterStirred T q u es x) n x) (rowsIn i l) (rowAt l i ∷ [])
-    (every-more (λ x. Went (holdStirred T q u es x) (enterStirred T q u es x) m x) (λ x. Went (holdStirred T q u es x) (enterStirred T q u es x) n x) (λ x k. went-grows m n x s k) (rowsIn i l) h) (w, tt))
+-- ---- rows that are not served
 
--- ---- what is met
+module _ (test : Row → Bool) (cap : ℕ) (es : List ℕ) where
+  hold-quiet : (rs : List Row) → Every (λ x. test x ≡ false) rs → each (holdBy test cap es) rs ≡ rs
+  hold-quiet [] h = refl
+  hold-quiet (r ∷ rs) h = rw (h .0) (ap (λ (l : List Row). r ∷ l) (hold-quiet rs (h .1)))
 
-met-length : (e k : ℕ) (rs : List Row) → length (metOf e k rs) ≤ length rs
-unfolding metOf
-met-length e k [] = omega arith
-met-length e k (r ∷ rs) = go (meetsOf e k (r .state)) (met-length e k rs)
-  where
-    go : (b : Bool) → length (metOf e k rs) ≤ length rs → length (one b (r .cover) ++ metOf e k rs) ≤ suc (length rs)
-    go true h = omega arith
-    go false h = omega arith
+  enter-quiet : (rs : List Row) → Every (λ x. test x ≡ false) rs → each (enterBy test cap es) rs ≡ []
+  enter-quiet [] h = refl
+  enter-quiet (r ∷ rs) h = rw (h .0) (enter-quiet rs (h .1))
 
-pub metFor-length : (q : Job) (rs : List Row) → length (metFor q rs) ≤ length rs
-unfolding metFor
-metFor-length q rs = go (ltb (q .place) 64)
-  where
-    go : (b : Bool) → length (cond b (metOf (q .place) (q .train) rs) []) ≤ length rs
-    go true = met-length (q .place) (q .train) rs
-    go false = omega arith
+  went-quiet : (moved : ℕ) (rs : List Row) → Every (λ x. test x ≡ false) rs → Every (λ x. Went (holdBy test cap es x) (enterBy test cap es x) moved x) rs
+  went-quiet moved rs h = every-more (λ x. test x ≡ false) (λ x. Went (holdBy test cap es x) (enterBy test cap es x) moved x) (λ x k. rw k (as-it-is refl refl)) rs h
+
+  -- ---- runs of rows
+
+  -- with a run of rows more, which are kept
+  pub two-run : {rows : List ℕ} {d : ℕ} {rows′ entering : List ℕ} {at a : ℕ} {entering′ : List ℕ} {r : ℕ} {rows″ : List ℕ} (i j : ℕ) (src : List ℕ)
+      → i ≤ j → j * 2 ≤ length src → Every (λ x. test x ≡ false) (rowsOf (slice (i * 2) (j * 2) src))
+      → Two rows d (words (each (holdBy test cap es) (rowsIn i src))) at rows′ entering 0 (each (enterBy test cap es) (rowsIn i src)) a entering′
+      → Put rows′ at (slice (i * 2) (j * 2) src) r rows″
+      → Two rows d (words (each (holdBy test cap es) (rowsIn j src))) r rows″ entering 0 (each (enterBy test cap es) (rowsIn j src)) a entering′
+  two-run {rows} {d} {rows′} {entering} {at} {a} {entering′} {r} {rows″} i j src h long quiet f g =
+      let b = two-bounds f in
+      let run : List Row = rowsOf (slice (i * 2) (j * 2) src) in
+      let holds : words (each (holdBy test cap es) (rowsIn j src)) ≡ words (each (holdBy test cap es) (rowsIn i src)) ++ slice (i * 2) (j * 2) src =
+      ap (λ (l : List Row). words (each (holdBy test cap es) l)) (rows-split i j src h long)
+      ∙ ap words (each-append (holdBy test cap es) (rowsIn i src) run ∙ ap (λ (l : List Row). each (holdBy test cap es) (rowsIn i src) ++ l) (hold-quiet run quiet))
+      ∙ words-append (each (holdBy test cap es) (rowsIn i src)) run
+      ∙ ap (λ (l : List ℕ). words (each (holdBy test cap es) (rowsIn i src)) ++ l) (words-rowsOf (j - i) (slice (i * 2) (j * 2) src) (length-slice (i * 2) (j * 2) src long ∙ omega arith)) in
+      let enters : each (enterBy test cap es) (rowsIn j src) ≡ each (enterBy test cap es) (rowsIn i src) ++ [] =
+      ap (each (enterBy test cap es)) (rows-split i j src h long)
+      ∙ each-append (enterBy test cap es) (rowsIn i src) run
+      ∙ ap (λ (l : List ℕ). each (enterBy test cap es) (rowsIn i src) ++ l) (enter-quiet run quiet) in
+      rw (holds, enters) (two-join f (two-row entering′ a (omega (arith, b .few, b .rows-length)) g))
+
+  pub went-run : (moved i j : ℕ) (src : List ℕ) → i ≤ j → j * 2 ≤ length src → Every (λ x. test x ≡ false) (rowsOf (slice (i * 2) (j * 2) src))
+      → Every (λ x. Went (holdBy test cap es x) (enterBy test cap es x) moved x) (rowsIn i src) → Every (λ x. Went (holdBy test cap es x) (enterBy test cap es x) moved x) (rowsIn j src)
+  went-run moved i j src h long quiet w =
+      subst (Every (λ x. Went (holdBy test cap es x) (enterBy test cap es x) moved x)) (sym (rows-split i j src h long))
+      (every-append (λ x. Went (holdBy test cap es x) (enterBy test cap es x) moved x) (rowsIn i src) (rowsOf (slice (i * 2) (j * 2) src)) w
+      (went-quiet moved (rowsOf (slice (i * 2) (j * 2) src)) quiet))
+
+  -- with one row more, which is served
+  pub two-served : {rows : List ℕ} {d : ℕ} {rows′ entering : List ℕ} {at a : ℕ} {entering′ : List ℕ} {z : ℕ} {rows″ : List ℕ} {y : ℕ} {entering″ : List ℕ} (j : ℕ) (src : List ℕ)
+      → j * 2 + 2 ≤ length src → test (rowAt src j) ≡ true
+      → Two rows d (words (each (holdBy test cap es) (rowsIn j src))) at rows′ entering 0 (each (enterBy test cap es) (rowsIn j src)) a entering′
+      → Two rows′ at (words (heldRows (getD src (j * 2) 0) (heldOf (carried cap es 0 (getD src (j * 2 + 1) 0))))) z rows″ entering′ a
+      (enteringOf (carried cap es 0 (getD src (j * 2 + 1) 0))) y entering″
+      → Two rows d (words (each (holdBy test cap es) (rowsIn (j + 1) src))) z rows″ entering 0 (each (enterBy test cap es) (rowsIn (j + 1) src)) y entering″
+  two-served j src long here f g =
+      let held : holdBy test cap es (rowAt src j) ≡ heldRows (getD src (j * 2) 0) (heldOf (carried cap es 0 (getD src (j * 2 + 1) 0))) =
+      ap (λ (b : Bool). cond b (heldRows (getD src (j * 2) 0) (heldOf (carried cap es 0 (getD src (j * 2 + 1) 0)))) (rowAt src j ∷ [])) here in
+      let came : enterBy test cap es (rowAt src j) ≡ enteringOf (carried cap es 0 (getD src (j * 2 + 1) 0)) =
+      ap (λ (b : Bool). cond b (enteringOf (carried cap es 0 (getD src (j * 2 + 1) 0))) []) here in
+      let holds : words (each (holdBy test cap es) (rowsIn (j + 1) src)) ≡ words (each (holdBy test cap es) (rowsIn j src)) ++ words (heldRows (getD src (j * 2) 0) (heldOf (carried cap es 0 (getD src (j * 2 + 1) 0)))) =
+      ap words (each-more (holdBy test cap es) j src long ∙ ap (λ (l : List Row). each (holdBy test cap es) (rowsIn j src) ++ l) held)
+      ∙ words-append (each (holdBy test cap es) (rowsIn j src)) (heldRows (getD src (j * 2) 0) (heldOf (carried cap es 0 (getD src (j * 2 + 1) 0)))) in
+      let enters : each (enterBy test cap es) (rowsIn (j + 1) src) ≡ each (enterBy test cap es) (rowsIn j src) ++ enteringOf (carried cap es 0 (getD src (j * 2 + 1) 0)) =
+      each-more (enterBy test cap es) j src long ∙ ap (λ (l : List ℕ). each (enterBy test cap es) (rowsIn j src) ++ l) came in
+      rw (holds, enters) (two-join f g)
+
+  pub went-served : (r : Row) (moved : ℕ) → test r ≡ true → Went (heldRows (r .state) (heldOf (carried cap es 0 (r .cover)))) (enteringOf (carried cap es 0 (r .cover))) moved r
+      → Went (holdBy test cap es r) (enterBy test cap es r) moved r
+  went-served r moved here w = rw here w
+
+  -- with one row more
+  pub went-more : (i : ℕ) (l : List ℕ) (m n : ℕ) → i * 2 + 2 ≤ length l → Sub m n → Every (λ x. Went (holdBy test cap es x) (enterBy test cap es x) m x) (rowsIn i l)
+      → Went (holdBy test cap es (rowAt l i)) (enterBy test cap es (rowAt l i)) n (rowAt l i) → Every (λ x. Went (holdBy test cap es x) (enterBy test cap es x) n x) (rowsIn (i + 1) l)
+  went-more i l m n long s h w =
+      rw (rowsIn-more i l long)
+      (every-append (λ x. Went (holdBy test cap es x) (enterBy test cap es x) n x) (rowsIn i l) (rowAt l i ∷ [])
+      (every-more (λ x. Went (holdBy test cap es x) (enterBy test cap es x) m x) (λ x. Went (holdBy test cap es x) (enterBy test cap es x) n x) (λ x k. went-grows m n x s k) (rowsIn i l) h) (w, tt))
+
+-- ---- tests that agree
+
+module _ (test other : Row → Bool) where
+  hold-same : (cap : ℕ) (es : List ℕ) (l : List Row) → Every (λ r. test r ≡ other r) l → each (holdBy test cap es) l ≡ each (holdBy other cap es) l
+  hold-same cap es l h = each-every (λ r. test r ≡ other r) (holdBy test cap es) (holdBy other cap es) (λ r k. rw k refl) l h
+
+  enter-same : (cap : ℕ) (es : List ℕ) (l : List Row) → Every (λ r. test r ≡ other r) l → each (enterBy test cap es) l ≡ each (enterBy other cap es) l
+  enter-same cap es l h = each-every (λ r. test r ≡ other r) (enterBy test cap es) (enterBy other cap es) (λ r k. rw k refl) l h
+
+  pub covers-same : (q : Job) (l : List Row) → Every (λ r. test r ≡ other r) l → coversBy test q l ≡ coversBy other q l
+  covers-same q l h = enter-same (q .cap) (metFor q l) l h
+
+  pub pass-same : (q : Job) (l : List Row) → Every (λ r. test r ≡ other r) l → passBy test q l ≡ passBy other q l
+  pass-same q l h =
+      ap₂ (λ (a : List Row) (cs : List ℕ). a ++ enteredRows (q .stands) (q .blocks) (q .two) cs) (hold-same (q .cap) (metFor q l) l h) (covers-same q l h)
+
+  pub went-same : (cap : ℕ) (es : List ℕ) (moved : ℕ) (l : List Row) → Every (λ r. test r ≡ other r) l → Every (λ r. Went (holdBy test cap es r) (enterBy test cap es r) moved r) l
+      → Every (λ r. Went (holdBy other cap es r) (enterBy other cap es r) moved r) l
+  went-same cap es moved [] h w = tt
+  went-same cap es moved (r ∷ l) h w = (rw (h .0) at (w .0), went-same cap es moved l (h .1) (w .1))
 
 -- ---- rows that entered
 
@@ -92,7 +149,7 @@ entered-length s b two (c ∷ cs) = go two (entered-length s b two cs)
 
 -- ---- the pass
 
-module _ (T : List ℕ) (q : Job) (u n i : ℕ) (rows : List ℕ) where
+module _ (test : Row → Bool) (q : Job) (n i : ℕ) (rows : List ℕ) where
   abbrev L : List Row
   L = rowsIn n rows
 
@@ -100,37 +157,35 @@ module _ (T : List ℕ) (q : Job) (u n i : ℕ) (rows : List ℕ) where
   es = metFor q L
 
   abbrev A : List ℕ
-  A = stirredCovers T q u L
+  A = coversBy test q L
 
   abbrev S : List Row
   S = rowsOf (slice (i * 2) (n * 2) rows)
 
   abbrev H : List Row
-  H = each (holdStirred T q u es) S
+  H = each (holdBy test (q .cap) es) S
 
   abbrev E : List Row
   E = enteredRows (q .stands) (q .blocks) (q .two) A
 
-  module _ {tmp met held entering : List ℕ} (lent : Lent T rows tmp met held entering) (long : n * 2 < length rows) (before : i ≤ n)
-      (quiet : Every (λ y. askingOf T q y ≡ false) (rowsIn i rows)) where
-    holds-are : each (holdStirred T q u es) L ≡ rowsIn i rows ++ H
+  module _ {tmp met held entering : List ℕ} (lent : Space rows tmp met held entering) (long : n * 2 < length rows) (before : i ≤ n)
+      (quiet : Every (λ y. test y ≡ false) (rowsIn i rows)) where
+    holds-are : each (holdBy test (q .cap) es) L ≡ rowsIn i rows ++ H
     holds-are =
-        ap (each (holdStirred T q u es)) (rows-split i n rows before (omega arith))
-        ∙ each-append (holdStirred T q u es) (rowsIn i rows) S
-        ∙ ap (λ (l : List Row). l ++ H) (hold-quiet T q u es (rowsIn i rows) quiet)
+        ap (each (holdBy test (q .cap) es)) (rows-split i n rows before (omega arith))
+        ∙ each-append (holdBy test (q .cap) es) (rowsIn i rows) S
+        ∙ ap (λ (l : List Row). l ++ H) (hold-quiet test (q .cap) es (rowsIn i rows) quiet)
 
-    enters-are : A ≡ each (enterStirred T q u es) S
-    unfolding stirredCovers
+    enters-are : A ≡ each (enterBy test (q .cap) es) S
     enters-are =
-        ap (each (enterStirred T q u es)) (rows-split i n rows before (omega arith))
-        ∙ each-append (enterStirred T q u es) (rowsIn i rows) S
-        ∙ ap (λ (l : List ℕ). l ++ each (enterStirred T q u es) S) (enter-quiet T q u es (rowsIn i rows) quiet)
+        ap (each (enterBy test (q .cap) es)) (rows-split i n rows before (omega arith))
+        ∙ each-append (enterBy test (q .cap) es) (rowsIn i rows) S
+        ∙ ap (λ (l : List ℕ). l ++ each (enterBy test (q .cap) es) S) (enter-quiet test (q .cap) es (rowsIn i rows) quiet)
 
-    passed-are : stirredPass T q u L ≡ rowsIn i rows ++ (H ++ E)
-    unfolding stirredPass
+    passed-are : passBy test q L ≡ rowsIn i rows ++ (H ++ E)
     passed-are = ap (λ (l : List Row). l ++ E) holds-are ∙ append-assoc (rowsIn i rows) H E
 
-    passed-length : length (stirredPass T q u L) * 2 ≡ i * 2 + length (words H) + length E * 2
+    passed-length : length (passBy test q L) * 2 ≡ i * 2 + length (words H) + length E * 2
     passed-length =
         omega (
           arith,
@@ -141,8 +196,8 @@ module _ (T : List ℕ) (q : Job) (u n i : ℕ) (rows : List ℕ) where
           words-length H,
         )
 
-    met-is : {m : ℕ} {met′ : List ℕ} → Put met 0 es m met′ → take m met′ ≡ es
-    met-is {m} {met′} f = put-start f (omega (arith, lent .met-long, metFor-length q L, rowsIn-length n rows (omega arith)))
+    met-is : {m : ℕ} {met′ : List ℕ} → Begins es m met′ → take m met′ ≡ es
+    met-is f = f .list
 
     copy-is : {x : ℕ} {tmp′ : List ℕ} → Put tmp 0 (slice (i * 2) (n * 2) rows) x tmp′ → rowsIn (n - i) tmp′ ≡ S
     copy-is {x} {tmp′} f =
@@ -152,7 +207,7 @@ module _ (T : List ℕ) (q : Job) (u n i : ℕ) (rows : List ℕ) where
 
     walked : {z : Ends} {r : ℕ} {rows′ entering′ rows″ : List ℕ} → Two rows (i * 2) (words H) (z .place) rows′ entering 0 A (z .entering) entering′
         → Put rows′ (z .place) (words (enteredRows (q .stands) (q .blocks) (q .two) (take (z .entering) entering′))) r rows″
-        → Passed (stirredPass T q u L) A (record { place = r; entering = z .entering; moved = z .moved }) rows″ entering′
+        → Passed (passBy test q L) A (record { place = r; entering = z .entering; moved = z .moved }) rows″ entering′
     walked {z} {r} {rows′} {entering′} {rows″} (fits h k f g) w =
         let few : length A ≤ length entering = omega (arith, g .place, lent .entering-long) in
         let took : take (z .entering) entering′ ≡ A = came-taken g few in
@@ -176,17 +231,17 @@ module _ (T : List ℕ) (q : Job) (u n i : ℕ) (rows : List ℕ) where
           covers = λ y. absurd (omega (arith, w .place));
         }
 
-    pub pass-law : {m x r : ℕ} {z : Ends} {tmp′ met′ rows′ entering′ rows″ : List ℕ} → Put met 0 (metFor q (rowsIn n rows)) m met′ → Put tmp 0 (slice (i * 2) (n * 2) rows) x tmp′
-        → Two rows (i * 2) (words (each (holdStirred T q u (take m met′)) (rowsIn (n - i) tmp′))) (z .place) rows′ entering 0
-        (each (enterStirred T q u (take m met′)) (rowsIn (n - i) tmp′)) (z .entering) entering′
+    pub pass-law : {m x r : ℕ} {z : Ends} {tmp′ met′ rows′ entering′ rows″ : List ℕ} → Begins (metFor q (rowsIn n rows)) m met′ → Put tmp 0 (slice (i * 2) (n * 2) rows) x tmp′
+        → Two rows (i * 2) (words (each (holdBy test (q .cap) (take m met′)) (rowsIn (n - i) tmp′))) (z .place) rows′ entering 0
+        (each (enterBy test (q .cap) (take m met′)) (rowsIn (n - i) tmp′)) (z .entering) entering′
         → Put rows′ (z .place) (words (enteredRows (q .stands) (q .blocks) (q .two) (take (z .entering) entering′))) r rows″
-        → Passed (stirredPass T q u (rowsIn n rows)) (stirredCovers T q u (rowsIn n rows)) (record { place = r; entering = z .entering; moved = z .moved }) rows″ entering′
+        → Passed (passBy test q (rowsIn n rows)) (coversBy test q (rowsIn n rows)) (record { place = r; entering = z .entering; moved = z .moved }) rows″ entering′
     pass-law {z = z} f g t w = walked {z = z} (rw enters-are (rw (met-is f, copy-is g) at t)) w
 
     -- what moved of the rows that were walked is what moved of all
-    pub pass-went : (moved : ℕ) {m x : ℕ} {tmp′ met′ : List ℕ} → Put met 0 (metFor q (rowsIn n rows)) m met′ → Put tmp 0 (slice (i * 2) (n * 2) rows) x tmp′
-        → Every (λ y. Went (holdStirred T q u (take m met′) y) (enterStirred T q u (take m met′) y) moved y) (rowsIn (n - i) tmp′)
-        → Every (λ y. Went (holdStirred T q u (metFor q (rowsIn n rows)) y) (enterStirred T q u (metFor q (rowsIn n rows)) y) moved y) (rowsIn n rows)
+    pub pass-went : (moved : ℕ) {m x : ℕ} {tmp′ met′ : List ℕ} → Begins (metFor q (rowsIn n rows)) m met′ → Put tmp 0 (slice (i * 2) (n * 2) rows) x tmp′
+        → Every (λ y. Went (holdBy test (q .cap) (take m met′) y) (enterBy test (q .cap) (take m met′) y) moved y) (rowsIn (n - i) tmp′)
+        → Every (λ y. Went (holdBy test (q .cap) (metFor q (rowsIn n rows)) y) (enterBy test (q .cap) (metFor q (rowsIn n rows)) y) moved y) (rowsIn n rows)
     pass-went moved f g w =
-        subst (λ (l : List Row). Every (λ y. Went (holdStirred T q u es y) (enterStirred T q u es y) moved y) l) (sym (rows-split i n rows before (omega arith)))
-        (every-append (λ y. Went (holdStirred T q u es y) (enterStirred T q u es y) moved y) (rowsIn i rows) S (went-quiet T q u es moved (rowsIn i rows) quiet) (rw (met-is f, copy-is g) at w))
+        subst (λ (l : List Row). Every (λ y. Went (holdBy test (q .cap) es y) (enterBy test (q .cap) es y) moved y) l) (sym (rows-split i n rows before (omega arith)))
+        (every-append (λ y. Went (holdBy test (q .cap) es y) (enterBy test (q .cap) es y) moved y) (rowsIn i rows) S (went-quiet test (q .cap) es moved (rowsIn i rows) quiet) (rw (met-is f, copy-is g) at w))

@@ -4,12 +4,12 @@ ghost use mathlib.Core.Bool.{false};
 ghost use Prim.Native.Nat.{_*_, _/_, _≤_, _<_};
 ghost use lib.ListN.{length, take};
 ghost use Rattle.rules.specs.Lists.{each};
-ghost use Rattle.simulation.specs.Lists.{Every};
+ghost use Rattle.lists.specs.Every.{Every};
 ghost use Rattle.cut.specs.Cut.{carried, heldOf, enteringOf};
 ghost use Rattle.rows.specs.Rows.{row, words, rowsIn, heldRows};
 ghost use Rattle.quiet.specs.Parts.{Sub};
-ghost use Rattle.asking.specs.Ask.{metFor, askingOf};
-ghost use Rattle.serving.specs.Pass.{holdStirred, enterStirred, stirredCovers, stirredPass, Stays, Went, Two, Passed, Lent};
+ghost use Rattle.asking.specs.Ask.{metFor, stirsOf};
+ghost use Rattle.serving.specs.Pass.{holdBy, enterBy, coversBy, passBy, Stays, Went, Two, Passed, Space};
 
 // The place after the last word of the rows, how many covers have entered, and all that moved: the covers of the rows that were cut or entered.
 pub struct Ends {
@@ -72,65 +72,44 @@ pub fn serve(
     }
 }
 
-// One row: served where it asks and shares a choice with u, and else kept.
-pub fn step(
-    tables: &[u64],
-    met: &[u64],
-    held: &mut [u64],
-    entering: &mut [u64],
-    rows: &mut [u64],
-    d: usize,
-    a: usize,
-    m: u64,
-    s: u64,
-    c: u64,
-    u: u64,
-    q: asking::Job,
-) -> Ends
-    requires { ⌜ (2 ≤ length (now rows)) × (length (now rows) / 2 * 2 ≡ length (now rows)) × (length (now rows) ≤ length (now held) * 2) × (length (now rows) ≤ length (now entering) * 2) × (d ≤ length (now rows)) × (a * 2 ≤ length (now rows)) ⌝ }
-    ensures { λ r. ⌜ Two (now (rows .entry)) d (words (holdStirred (now (tables .entry)) q u (now (met .entry)) (row s c))) (r .place) (now (rows .exit)) (now (entering .entry)) a (enterStirred (now (tables .entry)) q u (now (met .entry)) (row s c)) (r .entering) (now (entering .exit)) ⌝ }
-    ensures { λ r. ⌜ Sub m (r .moved) × Went (holdStirred (now (tables .entry)) q u (now (met .entry)) (row s c)) (enterStirred (now (tables .entry)) q u (now (met .entry)) (row s c)) (r .moved) (row s c) ⌝ }
-{
-    if asking::stirs(tables, s, c, u, q) {
-        return serve(met, held, entering, rows, d, a, m, s, c, q);
-    }
-    let next = rows::append(rows, d, s, c);
-    Ends {
-        place: next,
-        entering: a,
-        moved: m,
-    }
-}
-
-// The first n rows of src, one after the other, from the place d of the rows on.
+// The first n rows of src, one run after the other, from the place d of the rows on: those that are not stirred are kept, and the one after them is served.
 pub fn walk(
     src: &[u64],
     n: usize,
-    tables: &[u64],
     met: &[u64],
     held: &mut [u64],
     entering: &mut [u64],
     rows: &mut [u64],
     d: usize,
+    key: u64,
     u: u64,
     q: asking::Job,
 ) -> Ends
-    requires { ⌜ (n * 2 ≤ length (now src)) × (2 ≤ length (now rows)) × (length (now rows) / 2 * 2 ≡ length (now rows)) × (length (now rows) ≤ length (now held) * 2) × (length (now rows) ≤ length (now entering) * 2) × (d < length (now rows)) ⌝ }
-    ensures { λ r. ⌜ Two (now (rows .entry)) d (words (each (holdStirred (now (tables .entry)) q u (now (met .entry))) (rowsIn n (now (src .entry))))) (r .place) (now (rows .exit)) (now (entering .entry)) 0 (each (enterStirred (now (tables .entry)) q u (now (met .entry))) (rowsIn n (now (src .entry)))) (r .entering) (now (entering .exit)) ⌝ }
-    ensures { λ r. ⌜ Every (λ x. Went (holdStirred (now (tables .entry)) q u (now (met .entry)) x) (enterStirred (now (tables .entry)) q u (now (met .entry)) x) (r .moved) x) (rowsIn n (now (src .entry))) ⌝ }
+    requires { ⌜ (n * 2 ≤ length (now src)) × (2 ≤ length (now rows)) × (length (now rows) / 2 * 2 ≡ length (now rows)) × (length (now rows) ≤ length (now held) * 2) × (length (now rows) ≤ length (now entering) * 2) × (d < length (now rows)) × (key < 4294967296) × (q .minute < 2048) ⌝ }
+    ensures { λ r. ⌜ Two (now (rows .entry)) d (words (each (holdBy (stirsOf key (q .minute) u) (q .cap) (now (met .entry))) (rowsIn n (now (src .entry))))) (r .place) (now (rows .exit)) (now (entering .entry)) 0 (each (enterBy (stirsOf key (q .minute) u) (q .cap) (now (met .entry))) (rowsIn n (now (src .entry)))) (r .entering) (now (entering .exit)) ⌝ }
+    ensures { λ r. ⌜ Every (λ x. Went (holdBy (stirsOf key (q .minute) u) (q .cap) (now (met .entry)) x) (enterBy (stirsOf key (q .minute) u) (q .cap) (now (met .entry)) x) (r .moved) x) (rowsIn n (now (src .entry))) ⌝ }
 {
     let mut i = 0;
     let mut at = d;
     let mut a = 0;
     let mut m = 0;
     while i < n {
-        let s = src[i * 2];
-        let c = src[i * 2 + 1];
-        let z = step(tables, met, held, entering, rows, at, a, m, s, c, u, q);
+        let j = asking::next(src, i, n, key, q.minute, u);
+        let kept = rows::copy(src, i * 2, j * 2, rows, at);
+        if j == n {
+            return Ends {
+                place: kept,
+                entering: a,
+                moved: m,
+            };
+        }
+        let s = src[j * 2];
+        let c = src[j * 2 + 1];
+        let z = serve(met, held, entering, rows, kept, a, m, s, c, q);
         at = z.place;
         a = z.entering;
         m = z.moved;
-        i += 1;
+        i = j + 1;
     }
     Ends {
         place: at,
@@ -139,40 +118,29 @@ pub fn walk(
     }
 }
 
-// The pass over the first n rows, in place, where none before row i asks and only those that share a choice with u are served: the place after the
+// The pass over the first n rows, in place, where only those that are stirred are served, of which none stands before row i: the place after the
 // last word, or the length of the rows where they leave no place, how many covers have entered, and all that moved.
 pub fn pass(
     rows: &mut [u64],
     n: usize,
     i: usize,
     tmp: &mut [u64],
-    tables: &[u64],
     met: &mut [u64],
     held: &mut [u64],
     entering: &mut [u64],
+    key: u64,
     u: u64,
     q: asking::Job,
 ) -> Ends
-    requires { ⌜ Lent (now tables) (now rows) (now tmp) (now met) (now held) (now entering) ⌝ }
-    requires { ⌜ (n * 2 < length (now rows)) × (i ≤ n) × Every (λ x. askingOf (now tables) q x ≡ false) (rowsIn i (now rows)) ⌝ }
-    ensures { λ r. ⌜ Passed (stirredPass (now (tables .entry)) q u (rowsIn n (now (rows .entry)))) (stirredCovers (now (tables .entry)) q u (rowsIn n (now (rows .entry)))) r (now (rows .exit)) (now (entering .exit)) ⌝ }
-    ensures { λ r. ⌜ Every (λ x. Went (holdStirred (now (tables .entry)) q u (metFor q (rowsIn n (now (rows .entry)))) x) (enterStirred (now (tables .entry)) q u (metFor q (rowsIn n (now (rows .entry)))) x) (r .moved) x) (rowsIn n (now (rows .entry))) ⌝ }
+    requires { ⌜ Space (now rows) (now tmp) (now met) (now held) (now entering) ⌝ }
+    requires { ⌜ (n * 2 < length (now rows)) × (i ≤ n) × (key < 4294967296) × (q .minute < 2048) × Every (λ x. stirsOf key (q .minute) u x ≡ false) (rowsIn i (now rows)) ⌝ }
+    ensures { λ r. ⌜ Passed (passBy (stirsOf key (q .minute) u) q (rowsIn n (now (rows .entry)))) (coversBy (stirsOf key (q .minute) u) q (rowsIn n (now (rows .entry)))) r (now (rows .exit)) (now (entering .exit)) ⌝ }
+    ensures { λ r. ⌜ Every (λ x. Went (holdBy (stirsOf key (q .minute) u) (q .cap) (metFor q (rowsIn n (now (rows .entry)))) x) (enterBy (stirsOf key (q .minute) u) (q .cap) (metFor q (rowsIn n (now (rows .entry)))) x) (r .moved) x) (rowsIn n (now (rows .entry))) ⌝ }
 {
     let m = asking::meet(rows, n, q, met);
     let from = i * 2;
-    let _x = rows::copy(rows, from, n * 2, tmp);
-    let z = walk(
-        tmp,
-        n - i,
-        tables,
-        &met[..m],
-        held,
-        entering,
-        rows,
-        from,
-        u,
-        q,
-    );
+    let _x = rows::copy(rows, from, n * 2, tmp, 0);
+    let z = walk(tmp, n - i, &met[..m], held, entering, rows, from, key, u, q);
     let r = rows::enter(
         entering,
         z.entering,

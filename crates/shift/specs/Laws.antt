@@ -8,12 +8,11 @@ use lib.ListN.{length, take, drop, replicate, length-append}
 use lib.Seq.{sets-eq, length-sets, take-at, length-take-le}
 use Rattle.rules.specs.Refusals.{Refusal, Result, then, unless}
 use Rattle.rules.specs.Refusals.Result.{refused, answer}
-use Rattle.rules.specs.Files.{Head, Case, files}
-use Rattle.rules.specs.Turns.{State}
+use Rattle.rules.specs.Files.{Case, files}
 use Rattle.rules.specs.Joint.{joint}
 use Rattle.rules.specs.Listing.{decimal, line, refusedWord, refusedLine}
 use Rattle.rules.specs.Calls.{Run, runTo, wholeRun, textOf, filled, Lent, lent, listingCall}
-use Rattle.sound.specs.Places.{Told, files-told}
+use Rattle.sound.specs.Places.{files-told}
 use Rattle.images.specs.Writing.{Wrote}
 use Rattle.listing.specs.Suffices.{decimal-most}
 use Rattle.desk.specs.declared.Answer.{Answer}

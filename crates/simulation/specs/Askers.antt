@@ -10,7 +10,7 @@ use borrow.Author.Tests.{ltb-true, ltb-false, eqb-true, eqb-false, le-ltb}
 use Rattle.rules.specs.Files.{Case}
 use Rattle.rules.specs.Turns.{Mark, trainAt, sooner, Row, row, Turn, Rules, before, next}
 use Rattle.rules.specs.Turns.Turn.{nobody, somebody}
-use Rattle.simulation.specs.Lists.{Every, every-append, every-more, every-right}
+use Rattle.lists.specs.Every.{Every, every-append, every-more, every-right}
 
 -- ---- the order: by priority p, then by train number k
 

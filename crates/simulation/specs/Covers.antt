@@ -6,26 +6,12 @@ use mathlib.Core.List.{List, [], _∷_, _++_, map, append-nil}
 use Prim.Native.Nat.{ℕ, zero, suc, _<_}
 use native.Mathlib.Omega.{arith}
 use lib.ListN.{length, getD, set}
-use lib.Dec.{eqb}
-use borrow.Author.Tests.{eqb-true}
-use Rattle.rules.specs.Lists.{one, each, keep, any, has}
+use Rattle.rules.specs.Lists.{one, each, any, has}
 use Rattle.rules.specs.Joint.{Cover, common, without, isEmpty, inside, apart, outsides, covers}
-use Rattle.simulation.specs.Lists.{any-append, each-append, each-map, each-none, Every, every-append, every-map, every-one}
+use Rattle.lists.specs.Each.{each-append, each-map, each-none}
+use Rattle.lists.specs.Every.{Every, every-append, every-map, every-one, has-keep}
 
 -- ---- sets
-
-pub has-keep : (test : ℕ → Bool) (s : List ℕ) (d : ℕ) → has (keep test s) d ≡ (has s d && test d)
-has-keep test [] d = refl
-has-keep test (a ∷ s) d =
-    any-append (eqb d) (one (test a) a) (keep test s)
-    ∙ ap (λ (z : Bool). any (eqb d) (one (test a) a) || z) (has-keep test s d)
-    ∙ go (eqb d a) (test a) refl refl
-  where
-    go : (b c : Bool) → eqb d a ≡ b → test a ≡ c → (any (eqb d) (one c a) || (has s d && test d)) ≡ ((b || has s d) && test d)
-    go true true q r = ap (λ (z : Bool). (z || false) || (has s d && test d)) q ∙ sym (ap test (eqb-true d a q) ∙ r)
-    go true false q r = ap (λ (z : Bool). has s d && z) (ap test (eqb-true d a q) ∙ r) ∙ and-false (has s d) ∙ sym (ap test (eqb-true d a q) ∙ r)
-    go false true q r = ap (λ (z : Bool). (z || false) || (has s d && test d)) q
-    go false false q r = refl
 
 pub has-common : (s u : List ℕ) (d : ℕ) → has (common s u) d ≡ (has s d && has u d)
 unfolding common

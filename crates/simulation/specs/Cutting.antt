@@ -11,7 +11,9 @@ use lib.Dec.{leb, ltb}
 use borrow.Author.Tests.{leb-true, ltb-true, le-leb, lt-leb}
 use Rattle.rules.specs.Lists.{one, each, tick, count}
 use Rattle.rules.specs.Joint.{Cover, inside, apart, outsides, covers, Piece, cut, carry}
-use Rattle.simulation.specs.Lists.{each-append, each-each, each-every, Every, tick-le}
+use Rattle.lists.specs.Each.{each-append, each-each}
+use Rattle.lists.specs.Every.{each-every, Every}
+use Rattle.lists.specs.Sums.{tick-le}
 use Rattle.simulation.specs.Covers.{Fits, covers-inside, inside-fits, apart-covers, outsides-fit, outsides-law}
 
 -- the verdicts of the pieces that cover the choice

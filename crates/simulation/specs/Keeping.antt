@@ -12,7 +12,8 @@ use Rattle.rules.specs.Refusals.{firstOf}
 use Rattle.rules.specs.Files.{Case}
 use Rattle.rules.specs.Turns.{Place, Mark, elements, ended, asks, Served, State, state, Row, row, items, quiet, Turn, Rules, next, serveOne, serveAll, visit, minute, minutes, runFrom}
 use Rattle.rules.specs.Turns.Turn.{nobody, somebody}
-use Rattle.simulation.specs.Lists.{map-append, Every, every-append, every-left, every-right, every-map, every-all}
+use Rattle.lists.specs.Each.{map-append}
+use Rattle.lists.specs.Every.{Every, every-append, every-left, every-right, every-map, every-all}
 use Rattle.simulation.specs.Askers.{Asking, Chosen, next-chosen}
 
 -- ---- the rows around an asker

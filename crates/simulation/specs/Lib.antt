@@ -1,4 +1,3 @@
-pub mod Lists
 pub mod Covers
 pub mod Cutting
 pub mod Askers

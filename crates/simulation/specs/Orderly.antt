@@ -14,7 +14,9 @@ use Rattle.rules.specs.Files.{Case}
 use Rattle.rules.specs.Turns.{Place, same, Mark, ahead, lastStation, capacity}
 use Rattle.rules.specs.Turns.Place.{outside, gone}
 use Rattle.rules.specs.Single.{trainsOn}
-use Rattle.simulation.specs.Lists.{Every, every-all, sum-same, sum-less, sum-swap, count-any, sum-below-in}
+use Rattle.lists.specs.Every.{Every, every-all}
+use Rattle.lists.specs.Sums.{sum-every, sum-less, sum-swap, count-any}
+use Rattle.lists.specs.Below.{sum-below-in}
 
 -- ---- what is counted
 
@@ -61,10 +63,10 @@ module _ (C : Case) (ms v : List Mark) (o : Orderly C ms v) where
   pub trainsOn-count : (e : Place) → trainsOn C e ms ≡ count (isOn e) ms
   unfolding trainsOn
   trainsOn-count e =
-      sum-same (λ j. Unit) (λ j. tick (any (isAt j e) ms)) (λ j. count (isAt j e) ms) (λ j u. count-any (isAt j e) ms (at-once j e))
+      sum-every (λ j. Unit) (λ j. tick (any (isAt j e) ms)) (λ j. count (isAt j e) ms) (λ j u. count-any (isAt j e) ms (at-once j e))
       (below (length (C .trains))) (every-all (λ j. Unit) (λ j. tt) (below (length (C .trains))))
       ∙ sum-swap (λ j m. tick (isAt j e m)) (below (length (C .trains))) ms
-      ∙ sum-same (λ m. m .train < length (C .trains)) (λ m. sum (λ j. tick (isAt j e m)) (below (length (C .trains)))) (λ m. tick (isOn e m)) alone ms (o .known)
+      ∙ sum-every (λ m. m .train < length (C .trains)) (λ m. sum (λ j. tick (isAt j e m)) (below (length (C .trains)))) (λ m. tick (isOn e m)) alone ms (o .known)
     where
       alone : (m : Mark) → m .train < length (C .trains) → sum (λ j. tick (isAt j e m)) (below (length (C .trains))) ≡ tick (isOn e m)
       alone m h =

@@ -10,8 +10,9 @@ use lib.Dec.{eqb}
 use borrow.Author.Tests.{not-true}
 use Rattle.rules.specs.Lists.{one, each, keep, any, tick, count, has}
 use Rattle.rules.specs.Joint.{Cover, common, without, isEmpty, inside, apart, outsides, Piece, cut, carry}
-use Rattle.simulation.specs.Lists.{each-each, each-one, each-same, Every, every-append, every-map, every-one, every-each, sum-keep}
-use Rattle.simulation.specs.Covers.{has-keep}
+use Rattle.lists.specs.Each.{each-each, each-one, each-same}
+use Rattle.lists.specs.Every.{Every, every-append, every-map, every-one, every-each, has-keep}
+use Rattle.lists.specs.Sums.{sum-keep-le}
 
 -- ---- a part of a set
 
@@ -51,7 +52,7 @@ part-within w s p d h = go (has w d) (sym (ap (λ (l : List ℕ). has l d) (p .l
 
 -- no delay stands twice in the part, where none does in the set
 pub part-once : (w s : List ℕ) → Part w s → (d : ℕ) → count (eqb d) s ≤ count (eqb d) w
-part-once w s p d = subst (λ (l : List ℕ). count (eqb d) l ≤ count (eqb d) w) (p .listed) (sum-keep (λ a. tick (eqb d a)) (has s) w)
+part-once w s p d = subst (λ (l : List ℕ). count (eqb d) l ≤ count (eqb d) w) (p .listed) (sum-keep-le (λ a. tick (eqb d a)) (has s) w)
 
 -- ---- parts of covers
 

@@ -1,39 +1,11 @@
--- Places are told apart by `same`, and an asker stands on an element before the one it asks for.
--- Each law follows the cases of its definition. Assumes nothing.
-use mathlib.Core.Path.{_≡_, refl, ap}
+-- An asker stands on an element before the one it asks for. The law follows the cases of the definition. Assumes nothing.
+use mathlib.Core.Path.{_≡_, refl}
 use mathlib.Core.Bool.{Bool, true, false, not, _&&_, false≢true}
 use Prim.Native.Nat.{ℕ, _≤_}
 use lib.Dec.{leb}
-use borrow.Author.Tests.{eqb-true, eq-eqb, leb-true}
+use borrow.Author.Tests.{leb-true}
 use Rattle.rules.specs.Files.{Case}
-use Rattle.rules.specs.Turns.{Place, same, Mark, headIs, ahead, asks}
-use Rattle.rules.specs.Turns.Place.{outside, station, track, gone}
-
-pub same-eq : (p q : Place) → same p q ≡ true → p ≡ q
-unfolding same
-same-eq outside outside h = refl
-same-eq outside (station j) h = absurd (false≢true h)
-same-eq outside (track j) h = absurd (false≢true h)
-same-eq outside gone h = absurd (false≢true h)
-same-eq (station i) outside h = absurd (false≢true h)
-same-eq (station i) (station j) h = ap station (eqb-true i j h)
-same-eq (station i) (track j) h = absurd (false≢true h)
-same-eq (station i) gone h = absurd (false≢true h)
-same-eq (track i) outside h = absurd (false≢true h)
-same-eq (track i) (station j) h = absurd (false≢true h)
-same-eq (track i) (track j) h = ap track (eqb-true i j h)
-same-eq (track i) gone h = absurd (false≢true h)
-same-eq gone outside h = absurd (false≢true h)
-same-eq gone (station j) h = absurd (false≢true h)
-same-eq gone (track j) h = absurd (false≢true h)
-same-eq gone gone h = refl
-
-pub same-self : (p : Place) → same p p ≡ true
-unfolding same
-same-self outside = refl
-same-self (station i) = eq-eqb i i refl
-same-self (track i) = eq-eqb i i refl
-same-self gone = refl
+use Rattle.rules.specs.Turns.{Place, Mark, headIs, ahead, asks}
 
 -- what an asker is
 pub record Asked (C : Case) (t : ℕ) (e : Place) (m : Mark) : Type 0 where

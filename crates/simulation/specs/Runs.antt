@@ -16,7 +16,8 @@ use Rattle.rules.specs.Turns.Turn.{nobody, somebody}
 use Rattle.rules.specs.Single.{serveTrain, singleRules}
 use Rattle.rules.specs.Joint.{covers, Entry, serveEntry, jointRules}
 use Rattle.sound.specs.Facts.{Sound}
-use Rattle.simulation.specs.Lists.{Every, every-right, every-keep, sum-append, count-le, count-none}
+use Rattle.lists.specs.Every.{Every, every-right, every-keep}
+use Rattle.lists.specs.Sums.{sum-append, count-le, count-none}
 use Rattle.simulation.specs.Askers.{Asking, First, Chosen, next-chosen, next-nobody, next-first}
 use Rattle.simulation.specs.Keeping.{servedRows, servedList, items-asker, items-served, items-start, asking-start, served-asking}
 use Rattle.simulation.specs.Orderly.{Orderly}

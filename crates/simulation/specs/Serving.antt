@@ -13,7 +13,7 @@ use Rattle.rules.specs.Turns.Place.{gone}
 use Rattle.rules.specs.Single.{trainsOn, enters, serveTrain}
 use Rattle.rules.specs.Joint.{Cover, covers, whole, Entry, entry, Piece, piece, carry, meets, pieces, serveEntry}
 use Rattle.sound.specs.Facts.{Sound}
-use Rattle.simulation.specs.Lists.{Every, every-append, every-left, every-right, every-map, every-each, every-keep, every-all, every-more}
+use Rattle.lists.specs.Every.{Every, every-append, every-left, every-right, every-map, every-each, every-keep, every-all, every-more}
 use Rattle.simulation.specs.Covers.{Fits, covers-length}
 use Rattle.simulation.specs.Cutting.{verdicts, hits}
 use Rattle.simulation.specs.Parts.{Parts, parts-length, carry-parts}
@@ -43,7 +43,7 @@ module _ (P : Cover → Type 0) where
       (keep test ps) (every-keep (λ q. P (q .cover)) test ps h)
 
 module _ (C : Case) (t : ℕ) (e : Place) where
-  pieces-proper : (rs : List Entry) (r : Entry) → Every (Proper C) rs → Proper C r → Every (λ q. Parts (whole C) (q .cover)) (pieces C e rs r)
+  pub pieces-proper : (rs : List Entry) (r : Entry) → Every (Proper C) rs → Proper C r → Every (λ q. Parts (whole C) (q .cover)) (pieces C e rs r)
   unfolding pieces
   pieces-proper rs r hs h = go (same e gone)
     where
@@ -53,7 +53,7 @@ module _ (C : Case) (t : ℕ) (e : Place) where
           carry-parts (whole C) (capacity C e) (meets e (r .mark .train) rs) (meets-covers (Parts (whole C)) e (r .mark .train) rs hs) 0 (r .cover) h
 
   -- what comes of an asker has the covers of its pieces, and no other: what holds of each piece's cover holds of each of these
-  serve-covers : (P : Cover → Type 0) (rs : List Entry) (r : Entry) → Every (λ q. P (q .cover)) (pieces C e rs r)
+  pub serve-covers : (P : Cover → Type 0) (rs : List Entry) (r : Entry) → Every (λ q. P (q .cover)) (pieces C e rs r)
       → Every (λ a. P (a .cover)) (serveEntry C t e rs r .rows) × Every (λ a. P (a .cover)) (serveEntry C t e rs r .added) × Every (λ a. P (a .cover)) (serveEntry C t e rs r .arrived)
   unfolding serveEntry
   serve-covers P rs r h = search (kept-covers P, new-covers P)

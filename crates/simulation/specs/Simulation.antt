@@ -13,16 +13,17 @@ use Rattle.rules.specs.Files.{Case}
 use Rattle.rules.specs.Turns.{Place, same, Mark, elements, capacity, ended, State}
 use Rattle.rules.specs.Turns.Place.{outside, station, track, gone}
 use Rattle.rules.specs.Single.{firstMarks, trainsOn, single}
-use Rattle.rules.specs.Joint.{Cover, isEmpty, covers, whole, choices, Entry, firstList, jointRules, joint}
+use Rattle.rules.specs.Joint.{Cover, isEmpty, covers, whole, Entry, firstList, jointRules, joint}
 use Rattle.sound.specs.Facts.{Sound}
-use Rattle.simulation.specs.Lists.{Every, every-append, every-map, every-more, every-keep, every-all, length-keep, length-one, below-has, below-once}
+use Rattle.lists.specs.Every.{Every, every-append, every-map, every-more, every-keep, every-all}
+use Rattle.lists.specs.Sums.{length-keep, length-one}
+use Rattle.lists.specs.Below.{below-has, below-once}
 use Rattle.simulation.specs.Keeping.{run-keeps}
 use Rattle.simulation.specs.Orderly.{isAt, isStanding, Orderly, at-once, trainsOn-count, arrived-once}
 use Rattle.simulation.specs.Parts.{Part, parts-length, parts-at, part-within, part-once}
 use Rattle.simulation.specs.View.{Choice, view, view-keep}
 use Rattle.simulation.specs.Serving.{Proper, serve-proper}
 use Rattle.simulation.specs.Start.{whole-at, whole-length, first-proper, first-view, first-orderly}
-use Rattle.simulation.specs.Choices.{choices-choice}
 use Rattle.simulation.specs.Runs.{Twin, run-twin}
 
 -- ---- the covers of the joint run
@@ -147,7 +148,3 @@ simulation C sound x ch m = record {
 
     kept : Kept C (single C x m)
     kept = single-kept C sound x ch m
-
--- and so for each choice that is listed
-pub simulation-all : (C : Case) → Sound C → (m : ℕ) → Every (λ x. Simulates C x m) (choices C)
-simulation-all C sound m = every-more (Choice C) (λ x. Simulates C x m) (λ x ch. simulation C sound x ch m) (choices C) (choices-choice C)

@@ -16,10 +16,13 @@ use Rattle.rules.specs.Turns.Place.{outside}
 use Rattle.rules.specs.Single.{waits, firstMarks}
 use Rattle.rules.specs.Joint.{isEmpty, covers, whole, entry, firstList}
 use Rattle.sound.specs.Facts.{Sound}
-use Rattle.simulation.specs.Lists.{each-map, each-each, each-every, each-self, each-alone, each-below-in, has-below, below-has, Every, every-map, every-each, every-all, every-below, tick-le, sum-map, sum-same, sum-zero, sum-below-le, sum-below-in}
+use Rattle.lists.specs.Each.{each-map, each-each, each-self, each-alone}
+use Rattle.lists.specs.Every.{each-every, Every, every-map, every-each, every-all}
+use Rattle.lists.specs.Sums.{tick-le, sum-map, sum-every, sum-zero}
+use Rattle.lists.specs.Below.{each-below-in, has-below, below-has, every-below, sum-below-le, sum-below-in}
 use Rattle.simulation.specs.Covers.{covers-at, covers-set}
 use Rattle.simulation.specs.Parts.{Part, Parts, parts-set}
-use Rattle.simulation.specs.Places.{same-eq, same-self}
+use Rattle.sound.specs.Ways.{same-true, same-self}
 use Rattle.simulation.specs.Orderly.{isOn, isStanding, toGo, isBefore, reach, Orderly}
 use Rattle.simulation.specs.View.{Choice, view}
 use Rattle.simulation.specs.Serving.{Proper}
@@ -146,7 +149,7 @@ module _ (C : Case) (x : List ℕ) where
       (go (eqb j j) (same outside p) (ltb (toGo C j p) (toGo C j outside)) refl refl)
     where
       go : (a b c : Bool) → same outside p ≡ b → ltb (toGo C j p) (toGo C j outside) ≡ c → tick (a && b) + tick (a && true && c) ≤ 1
-      go true true true q r = absurd (omega (arith, ap (toGo C j) (same-eq outside p q), ltb-true (toGo C j p) (toGo C j outside) r))
+      go true true true q r = absurd (omega (arith, ap (toGo C j) (same-true outside p q), ltb-true (toGo C j p) (toGo C j outside) r))
       go true true false q r = omega arith
       go true false c q r = omega (arith, tick-le c)
       go false b c q r = omega arith
@@ -155,12 +158,12 @@ module _ (C : Case) (x : List ℕ) where
   unfolding firstMarks waits
   first-within p h =
       sum-map (λ m. tick (isOn p m)) (λ k. waits C k (getD x k 0)) (below (length (C .trains)))
-      ∙ sum-same (λ k. Unit) (λ k. tick (same outside p)) (λ k. 0) (λ k u. go (same outside p) refl) (below (length (C .trains)))
+      ∙ sum-every (λ k. Unit) (λ k. tick (same outside p)) (λ k. 0) (λ k u. go (same outside p) refl) (below (length (C .trains)))
       (every-all (λ k. Unit) (λ k. tt) (below (length (C .trains))))
       ∙ sum-zero (below (length (C .trains)))
     where
       go : (b : Bool) → same outside p ≡ b → tick b ≡ 0
-      go true q = absurd (false≢true (sym h ∙ ap (λ (d : Place). same p d) (same-eq outside p q) ∙ same-self p))
+      go true q = absurd (false≢true (sym h ∙ ap (λ (d : Place). same p d) (same-true outside p q) ∙ same-self p))
       go false q = refl
 
   first-before : (j : ℕ) → count (isBefore C j (lastStation C j)) (firstMarks C x) ≤ 1

@@ -15,9 +15,11 @@ use Rattle.rules.specs.Turns.{Place, same, Mark, stands, block, lastStation, ca
 use Rattle.rules.specs.Turns.Place.{outside, gone}
 use Rattle.rules.specs.Single.{trainsOn, enters, serveTrain}
 use Rattle.sound.specs.Facts.{Sound}
-use Rattle.simulation.specs.Lists.{Every, every-append, every-left, every-right, every-one, every-keep, every-all, tick-le, sum-append, sum-each, sum-same, sum-less, sum-one-le, sum-keep}
+use Rattle.lists.specs.Every.{Every, every-append, every-left, every-right, every-one, every-keep, every-all}
+use Rattle.lists.specs.Sums.{tick-le, sum-append, sum-each, sum-every, sum-less, sum-one-le, sum-keep-le}
 use Rattle.simulation.specs.Keeping.{servedList}
-use Rattle.simulation.specs.Places.{same-eq, asked}
+use Rattle.sound.specs.Ways.{same-true}
+use Rattle.simulation.specs.Places.{asked}
 use Rattle.simulation.specs.Orderly.{isOn, isAt, isStanding, toGo, isBefore, reach, Orderly, trainsOn-count}
 
 -- ---- a sum after a step
@@ -68,9 +70,9 @@ module _ (C : Case) (sound : Sound C) (t : ℕ) (e : Place) (m : Mark) (ask : as
     where
       go : (a b c : Bool) → same e p ≡ a → ltb (toGo C j p) (toGo C j e) ≡ b → ltb (toGo C j p) (toGo C j (m .place)) ≡ c → toGo C j e < toGo C j (m .place)
           → tick a + tick b ≤ tick (not (m .blocks) && c)
-      go true true c f g h l = absurd (omega (arith, ltb-true (toGo C j p) (toGo C j e) g, ap (toGo C j) (same-eq e p f)))
+      go true true c f g h l = absurd (omega (arith, ltb-true (toGo C j p) (toGo C j e) g, ap (toGo C j) (same-true e p f)))
       go true false true f g h l = omega (arith, ap tick (stood true), ap (λ (z : Bool). tick (not z && true)) (asked C t e m ask .stood))
-      go true false false f g h l = absurd (omega (arith, ltb-false (toGo C j p) (toGo C j (m .place)) h, ap (toGo C j) (same-eq e p f)))
+      go true false false f g h l = absurd (omega (arith, ltb-false (toGo C j p) (toGo C j (m .place)) h, ap (toGo C j) (same-true e p f)))
       go false true true f g h l = omega (arith, ap (λ (z : Bool). tick (not z && true)) (asked C t e m ask .stood))
       go false true false f g h l = absurd (omega (arith, ltb-false (toGo C j p) (toGo C j (m .place)) h, ltb-true (toGo C j p) (toGo C j e) g))
       go false false c f g h l = omega arith
@@ -153,10 +155,10 @@ module _ (C : Case) (sound : Sound C) (t : ℕ) (e : Place) (m : Mark) (ask : as
           where
             test : ltb (trainsOn C e (b ++ (m ∷ c))) (capacity C e) ≡ true
             test =
-                sym (ap (λ (z : Bool). z || ltb (trainsOn C e (b ++ (m ∷ c))) (capacity C e)) (ap (λ (d : Place). same d gone) (same-eq e p q) ∙ way)) ∙ h
+                sym (ap (λ (z : Bool). z || ltb (trainsOn C e (b ++ (m ∷ c))) (capacity C e)) (ap (λ (d : Place). same d gone) (same-true e p q) ∙ way)) ∙ h
 
             room : count (isOn p) (b ++ (m ∷ c)) < capacity C p
-            room = subst (λ (d : Place). count (isOn d) (b ++ (m ∷ c)) < capacity C d) (same-eq e p q)
+            room = subst (λ (d : Place). count (isOn d) (b ++ (m ∷ c)) < capacity C d) (same-true e p q)
                 (omega (arith, trainsOn-count C (b ++ (m ∷ c)) v o e, ltb-true (trainsOn C e (b ++ (m ∷ c))) (capacity C e) test))
 
     after-orderly : enters C e (b ++ (m ∷ c)) ≡ true → Orderly C after (v ++ arriving C t e m)
@@ -203,7 +205,7 @@ end-standing : (t j : ℕ) (ms : List Mark) → count (isStanding j) (keep (λ m
 unfolding ended
 end-standing t j ms =
     sum-each (λ m. tick (isStanding j m)) (λ m. one (not (ended t m)) m) ms
-    ∙ sum-same (λ m. Unit) (λ m. sum (λ a. tick (isStanding j a)) (one (not (ended t m)) m)) (λ m. tick (isStanding j m)) (λ m u. go m (m .blocks) (ltb (m .minute) t) refl)
+    ∙ sum-every (λ m. Unit) (λ m. sum (λ a. tick (isStanding j a)) (one (not (ended t m)) m)) (λ m. tick (isStanding j m)) (λ m u. go m (m .blocks) (ltb (m .minute) t) refl)
     ms (every-all (λ m. Unit) (λ m. tt) ms)
   where
     go : (m : Mark) (b l : Bool) → m .blocks ≡ b → sum (λ a. tick (isStanding j a)) (one (not (b && l)) m) ≡ tick (isStanding j m)
@@ -215,7 +217,7 @@ pub end-orderly : (C : Case) (t : ℕ) (ms v : List Mark) → Orderly C ms v →
 end-orderly C t ms v o = record {
   known = every-keep (λ m. m .train < length (C .trains)) (λ m. not (ended t m)) ms (o .known);
   stands-once = λ j l. end-standing t j ms ∙ o .stands-once j l;
-  reach-once = λ j p. le-trans (sum-keep (reach C j p) (λ m. not (ended t m)) ms) (o .reach-once j p);
-  within = λ p out way. le-trans (sum-keep (λ m. tick (isOn p m)) (λ m. not (ended t m)) ms) (o .within p out way);
-  arrives-once = λ j. omega (arith, o .arrives-once j, sum-keep (λ m. tick (isBefore C j (lastStation C j) m)) (λ m. not (ended t m)) ms);
+  reach-once = λ j p. le-trans (sum-keep-le (reach C j p) (λ m. not (ended t m)) ms) (o .reach-once j p);
+  within = λ p out way. le-trans (sum-keep-le (λ m. tick (isOn p m)) (λ m. not (ended t m)) ms) (o .within p out way);
+  arrives-once = λ j. omega (arith, o .arrives-once j, sum-keep-le (λ m. tick (isBefore C j (lastStation C j) m)) (λ m. not (ended t m)) ms);
 }

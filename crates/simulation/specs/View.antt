@@ -13,7 +13,9 @@ use Rattle.rules.specs.Turns.Place.{gone}
 use Rattle.rules.specs.Single.{trainsOn, singleRules}
 use Rattle.rules.specs.Joint.{Cover, covers, whole, Entry, entry, Piece, piece, carry, meets, pieces, jointRules}
 use Rattle.sound.specs.Facts.{Sound}
-use Rattle.simulation.specs.Lists.{each-append, each-map, each-each, each-same, each-none, each-self, each-one, Every, every-each, every-one, sum-each, sum-same, sum-one, sum-plus, every-all}
+use Rattle.lists.specs.Each.{each-append, each-map, each-each, each-same, each-none, each-self, each-one}
+use Rattle.lists.specs.Every.{Every, every-each, every-one, every-all}
+use Rattle.lists.specs.Sums.{sum-each, sum-every, sum-one, sum-plus}
 use Rattle.simulation.specs.Covers.{Fits}
 use Rattle.simulation.specs.Cutting.{verdicts, hits, carry-law}
 use Rattle.simulation.specs.Askers.{Asking}
@@ -190,7 +192,7 @@ module _ (x : List ℕ) where
   unfolding meets view
   meets-hits e k rs =
       sum-each (λ q. tick (covers q x)) (λ r. one (other (r .mark)) (r .cover)) rs
-      ∙ sum-same (λ r. Unit) (λ r. sum (λ q. tick (covers q x)) (one (other (r .mark)) (r .cover))) (λ r. sum (λ m. tick (other m)) (one (covers (r .cover) x) (r .mark)))
+      ∙ sum-every (λ r. Unit) (λ r. sum (λ q. tick (covers q x)) (one (other (r .mark)) (r .cover))) (λ r. sum (λ m. tick (other m)) (one (covers (r .cover) x) (r .mark)))
       (λ r u. sum-one (λ q. tick (covers q x)) (other (r .mark)) (r .cover) ∙ go (other (r .mark)) (covers (r .cover) x) ∙ sym (sum-one (λ m. tick (other m)) (covers (r .cover) x) (r .mark)))
       rs (every-all (λ r. Unit) (λ r. tt) rs)
       ∙ sym (sum-each (λ m. tick (other m)) (λ r. one (covers (r .cover) x) (r .mark)) rs)
@@ -224,7 +226,7 @@ module _ (x : List ℕ) where
     where
       split : count (isOn e) (b ++ (m ∷ c)) ≡ count (λ a. not (eqb (a .train) (m .train)) && same (a .place) e) (b ++ (m ∷ c)) + count (isAt (m .train) e) (b ++ (m ∷ c))
       split =
-          sum-same (λ a. Unit) (λ a. tick (isOn e a)) (λ a. tick (not (eqb (a .train) (m .train)) && same (a .place) e) + tick (isAt (m .train) e a))
+          sum-every (λ a. Unit) (λ a. tick (isOn e a)) (λ a. tick (not (eqb (a .train) (m .train)) && same (a .place) e) + tick (isAt (m .train) e a))
           (λ a u. go (eqb (a .train) (m .train)) (same (a .place) e)) (b ++ (m ∷ c)) (every-all (λ a. Unit) (λ a. tt) (b ++ (m ∷ c)))
           ∙ sum-plus (λ a. tick (not (eqb (a .train) (m .train)) && same (a .place) e)) (λ a. tick (isAt (m .train) e a)) (b ++ (m ∷ c))
         where

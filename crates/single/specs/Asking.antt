@@ -8,31 +8,29 @@ use native.Mathlib.Nat.{mul-one, mul-zero}
 use native.Mathlib.Omega.{arith}
 use lib.ListN.{length, getD}
 use lib.Dec.{leb, ltb, eqb}
-use borrow.Author.Tests.{eqb-true, eqb-false, eq-eqb, ne-eqb, lt-ltb}
+use borrow.Author.Tests.{eqb-false, ne-eqb, lt-ltb}
 use Rattle.rules.specs.Lists.{tick, sum, count, below}
-use Rattle.rules.specs.Files.{Head, Stop, Train, Case}
-use Rattle.rules.specs.Turns.{Place, same, Mark, absent, trainAt, lastStation, capacity, ahead, headIs, asks, State}
+use Rattle.rules.specs.Files.{Case}
+use Rattle.rules.specs.Turns.{same, Mark, absent, trainAt, lastStation, capacity, ahead, headIs, asks, State}
 use Rattle.rules.specs.Turns.Place.{station, gone}
 use Rattle.sound.specs.Facts.{SoundTrain, Sound}
-use Rattle.sound.specs.Every.{every-at, every-last}
+use Rattle.lists.specs.Tests.{eqb-turn}
+use Rattle.lists.specs.Every.{every-at}
+use Rattle.sound.specs.Steps.{every-last}
 use Rattle.sound.specs.Trains.{Known}
-use Rattle.simulation.specs.Lists.{sum-plus, sum-zero, sum-below-in}
-use Rattle.simulation.specs.Places.{same-self}
+use Rattle.lists.specs.Sums.{sum-plus, sum-zero}
+use Rattle.lists.specs.Below.{sum-below-in}
+use Rattle.sound.specs.Ways.{same-self}
 use Rattle.codes.specs.Codes.{codeOf, nowhere, placeOf}
 use Rattle.codes.specs.Tables.{nextCode, tables}
+use Rattle.codes.specs.Places.{place-code, same-element, head-code, known-coded, known-few}
+use Rattle.passes.specs.Elements.{ahead-known}
 use Rattle.passes.specs.Passes.{admits}
 use Rattle.single.specs.Words.{wanted, holding, crowd, lets}
-use Rattle.single.specs.Codes.{same-element, known-code, next-code}
-use Rattle.single.specs.Looks.{look-trains, look-goal, look-next, look-capacity}
+use Rattle.codes.specs.Lookups.{table-trains, table-last, table-capacity}
+use Rattle.single.specs.Looks.{look-next}
 use Rattle.single.specs.Sums.{sum-below}
 use Rattle.single.specs.Shows.{standsIn, endIn, blockTerm, Shows}
-
-eqb-swap : (a b : ℕ) → eqb a b ≡ eqb b a
-eqb-swap a b = go (eqb b a) refl
-  where
-    go : (c : Bool) → eqb b a ≡ c → eqb a b ≡ c
-    go true q = eq-eqb a b (sym (eqb-true b a q))
-    go false q = ne-eqb a b (λ h. eqb-false b a q (sym h))
 
 module _ (C : Case) (sound : Sound C) where
   pub few : {k : ℕ} → k < length (C .trains) → k < 8
@@ -48,14 +46,19 @@ module _ (C : Case) (sound : Sound C) where
       in
       every-last (λ s. s .station < length (C .stations)) (trainAt C k .stops) (omega (arith, t .some-stops)) (t .known-stations)
 
+  -- train k at a place goes on to the element with the code of its next one
+  next-code : (k p e : ℕ) → e ≤ 64 → headIs (placeOf e) (ahead C k (placeOf p)) ≡ eqb (nextCode C k p) e
+  unfolding nextCode
+  next-code k p e low = sym (head-code e (ahead C k (placeOf p)) low (λ l h. known-coded C sound l (ahead-known C sound k (placeOf p) l h)))
+
   -- whether e is the last station of train k
   pub goal-last : (k e : ℕ) → k < length (C .trains) → e ≤ 64 → eqb (getD (tables C) (16 + k) 0) e ≡ same (placeOf e) (lastStation C k)
   goal-last k e l m =
-      let q = known-code C sound (lastStation C k) (last-known k l) in
-      ap (λ (c : ℕ). eqb c e) (look-goal C k (few l) l)
-      ∙ eqb-swap (codeOf (lastStation C k)) e
-      ∙ sym (same-element e (codeOf (lastStation C k)) (q .0))
-      ∙ ap (same (placeOf e)) (q .1)
+      let known = last-known k l in
+      ap (λ (c : ℕ). eqb c e) (table-last C k l (few l))
+      ∙ eqb-turn (codeOf (lastStation C k)) e
+      ∙ sym (same-element e (codeOf (lastStation C k)) (known-few C sound (lastStation C k) known))
+      ∙ ap (same (placeOf e)) (place-code (lastStation C k) (known-coded C sound (lastStation C k) known))
 
   module _ (t : ℕ) (w : List ℕ) (s : State Mark) (h : Shows C t w s) where
     -- ---- who asks
@@ -68,7 +71,7 @@ module _ (C : Case) (sound : Sound C) where
         ∙ go (leb (getD w (8 + k) 0) t)
       where
         go : (b : Bool) → eqb (cond b (nextCode C k (getD w k 0)) nowhere) e ≡ (headIs (placeOf e) (ahead C k (placeOf (getD w k 0))) && b)
-        go true = sym (next-code C sound k (getD w k 0) e m) ∙ sym (whole (headIs (placeOf e) (ahead C k (placeOf (getD w k 0)))))
+        go true = sym (next-code k (getD w k 0) e m) ∙ sym (whole (headIs (placeOf e) (ahead C k (placeOf (getD w k 0)))))
           where
             whole : (b : Bool) → (b && true) ≡ b
             whole true = refl
@@ -81,7 +84,7 @@ module _ (C : Case) (sound : Sound C) where
     pub crowd-count : (e : ℕ) → e ≤ 64 → crowd (tables C) t e w ≡ count (λ a. same (a .place) (placeOf e)) (s .list)
     unfolding crowd holding
     crowd-count e m =
-        ap (λ (n : ℕ). sum (λ k. tick (eqb (getD w k 0) e) + tick (ltb t (endIn w e k))) (below n)) (look-trains C)
+        ap (λ (n : ℕ). sum (λ k. tick (eqb (getD w k 0) e) + tick (ltb t (endIn w e k))) (below n)) (table-trains C)
         ∙ sum-plus (λ k. tick (eqb (getD w k 0) e)) (λ k. tick (ltb t (endIn w e k))) (below (length (C .trains)))
         ∙ sym (
         h .sums (λ a. tick (same (a .place) (placeOf e)))
@@ -113,4 +116,4 @@ module _ (C : Case) (sound : Sound C) where
         go false q =
             let d : e ≡ 64 → ⊥ = eqb-false e 64 q in
             ap₂ (λ (y : Bool) (z : ℕ). y || ltb z (getD (tables C) (176 + e) 0)) (sym way-out) (crowd-count e m)
-            ∙ ap (λ (z : ℕ). same (placeOf e) gone || ltb (count (λ a. same (a .place) (placeOf e)) (s .list)) z) (look-capacity C e (omega arith))
+            ∙ ap (λ (z : ℕ). same (placeOf e) gone || ltb (count (λ a. same (a .place) (placeOf e)) (s .list)) z) (table-capacity C e (omega arith))

@@ -1,8 +1,8 @@
 pub mod Words
 pub mod Turns
-pub mod Codes
 pub mod Looks
 pub mod Sums
+pub mod Skips
 pub mod Shows
 pub mod Passing
 pub mod Asking

@@ -9,23 +9,23 @@ use lib.ListN.{length, getD}
 use lib.Dec.{ltb}
 use borrow.Author.Tests.{ltb-true}
 use Rattle.rules.specs.Lists.{each, below}
-use Rattle.rules.specs.Files.{Head, Track, Train, Pair, Case}
-use Rattle.rules.specs.Turns.{Place, Leg, same, trainAt, way, ahead, headIs, plannedOn, lastStation, capacity}
+use Rattle.rules.specs.Files.{Case}
+use Rattle.rules.specs.Turns.{Place, Leg, trainAt, way, ahead, headIs, lastStation, capacity}
 use Rattle.rules.specs.Turns.Place.{outside, station, track, gone}
 use Rattle.rules.specs.Single.{pairAt, firstArrival}
 use Rattle.rules.specs.Figures.{plan}
-use Rattle.sound.specs.Facts.{Every, SoundPairs, Sound}
-use Rattle.sound.specs.Every.{every-all, every-append, every-anywhere, every-image, every-map}
-use Rattle.sound.specs.Trains.{way-planned, plan-most}
-use Rattle.simulation.specs.Places.{same-self}
+use Rattle.lists.specs.Every.{Every, every-all, every-append, every-anywhere, every-image, every-more}
+use Rattle.sound.specs.Facts.{SoundPairs, Sound}
+use Rattle.sound.specs.Trains.{way-planned, plan-most, planned-low}
+use Rattle.sound.specs.Ways.{same-self}
 use Rattle.codes.specs.Codes.{codeOf, placeOf}
 use Rattle.codes.specs.Tables.{order, headCode, nextCode, stayOn, perTrain, perPair, headTable, trainTables, pairTables, tables}
 use Rattle.passes.specs.Order.{order-known}
 use Rattle.passes.specs.Elements.{ahead-known}
 use Rattle.passes.specs.Bounds.{ByteDelays, arrival-low, delay-low}
 use Rattle.single.specs.Words.{Small}
-use Rattle.single.specs.Codes.{known-code}
-use Rattle.single.specs.Looks.{look-last}
+use Rattle.codes.specs.Places.{known-few}
+use Rattle.codes.specs.Lookups.{table-minute}
 use Rattle.single.specs.Asking.{last-known}
 
 abbrev pub Low : ℕ → Type 0
@@ -41,15 +41,6 @@ map-low f h l = every-image Low f l (every-all (λ k. Low (f k)) h l)
 rows-low : (f : ℕ → ℕ → ℕ) (m : ℕ) → ((k p : ℕ) → Low (f k p)) → (l : List ℕ) → Every Low (each (λ k. map (f k) (below m)) l)
 rows-low f m h l = each-low (λ k. map (f k) (below m)) (λ k. map-low (f k) (h k) (below m)) l
 
--- what holds of the planned minutes of each element holds of those on one
-planned-every : (P : ℕ → Type 0) (e : Place) (ls : List Leg) → P 0 → Every (λ l. P (l .planned)) ls → P (plannedOn e ls)
-planned-every P e [] z h = z
-planned-every P e (l ∷ ls) z h = go (same (l .place) e) (planned-every P e ls z (h .1))
-  where
-    go : (b : Bool) → P (plannedOn e ls) → P (cond b (l .planned) (plannedOn e ls))
-    go true r = h .0
-    go false r = r
-
 module _ (C : Case) (sound : Sound C) (bytes : ByteDelays C) where
   trains-low : (f : ℕ → ℕ) → ((k : ℕ) → k < length (C .trains) → Low (f k)) → Every Low (perTrain C f)
   trains-low f h = map-low (λ k. cond (ltb k (length (C .trains))) (f k) 0) (λ k. go k (ltb k (length (C .trains))) refl) (below 8)
@@ -62,7 +53,7 @@ module _ (C : Case) (sound : Sound C) (bytes : ByteDelays C) where
   order-low k =
       every-anywhere Low (order C) 0 (omega arith) (listed (order C) (order-known C)) k
     where
-      listed : (l : List ℕ) → Rattle.simulation.specs.Lists.Every (λ j. j < length (C .trains)) l → Every Low l
+      listed : (l : List ℕ) → Every (λ j. j < length (C .trains)) l → Every Low l
       listed [] h = tt
       listed (j ∷ l) h = (omega (arith, h .0, sound .few-trains), listed l (h .1))
 
@@ -70,15 +61,15 @@ module _ (C : Case) (sound : Sound C) (bytes : ByteDelays C) where
   weight-low k d =
       every-anywhere (λ p. Low (p .weight)) (getD (C .tables) k []) (record { delay = 0; weight = 0 }) (omega arith)
       (every-anywhere (Every (λ p. Low (p .weight))) (C .tables) [] tt
-      (every-map {P = SoundPairs} {Q = Every (λ p. Low (p .weight))} (λ ps h. every-map {P = λ p. p .weight ≤ 100} {Q = λ p. Low (p .weight)} (λ p l. omega arith) ps (h .light)) (C .tables) (sound .tables-sound)) k) d
+      (every-more SoundPairs (Every (λ p. Low (p .weight))) (λ ps h. every-more (λ p. p .weight ≤ 100) (λ p. Low (p .weight)) (λ p l. omega arith) ps (h .light)) (C .tables) (sound .tables-sound)) k) d
 
   capacity-low : (p : Place) → Low (capacity C p)
   unfolding capacity
   capacity-low outside = omega arith
-  capacity-low (station i) = every-anywhere Low (C .stations) 0 (omega arith) (every-map {Q = Low} (λ n h. omega (arith, h .few)) (C .stations) (sound .stations-sound)) i
+  capacity-low (station i) = every-anywhere Low (C .stations) 0 (omega arith) (every-more _ Low (λ n h. omega (arith, h .few)) (C .stations) (sound .stations-sound)) i
   capacity-low (track j) =
       every-anywhere Low (map (λ r. r .capacity) (C .tracks)) 0 (omega arith)
-      (every-image Low (λ r. r .capacity) (C .tracks) (every-map {Q = λ r. Low (r .capacity)} (λ r h. omega (arith, h .holds .few)) (C .tracks) (sound .tracks-sound))) j
+      (every-image Low (λ r. r .capacity) (C .tracks) (every-more _ (λ r. Low (r .capacity)) (λ r h. omega (arith, h .holds .few)) (C .tracks) (sound .tracks-sound))) j
   capacity-low gone = omega arith
 
   next-low : (k p : ℕ) → Low (nextCode C k p)
@@ -88,13 +79,12 @@ module _ (C : Case) (sound : Sound C) (bytes : ByteDelays C) where
       go : (ls : List Leg) → ahead C k (placeOf p) ≡ ls → Low (headCode ls)
       go [] q = omega arith
       go (l ∷ ls) q =
-          omega (arith, known-code C sound (l .place) (ahead-known C sound k (placeOf p) (l .place) (ap (headIs (l .place)) q ∙ same-self (l .place))) .0)
+          omega (arith, known-few C sound (l .place) (ahead-known C sound k (placeOf p) (l .place) (ap (headIs (l .place)) q ∙ same-self (l .place))))
 
   stay-low : (k e : ℕ) → Low (stayOn C k e)
   unfolding stayOn
   stay-low k e =
-      planned-every Low (placeOf e) (way C k) (omega arith)
-      (every-map {Q = λ l. Low (l .planned)} (λ l h. omega (arith, sound .in-window)) (way C k) (way-planned C sound k))
+      omega (arith, planned-low (C .head .lastMinute) (placeOf e) (way C k) (way-planned C sound k), sound .in-window)
 
   pub tables-low : Every Low (tables C)
   unfolding tables
@@ -125,7 +115,7 @@ module _ (C : Case) (sound : Sound C) (bytes : ByteDelays C) where
       train-low =
           every-append Low (perTrain C (λ k. getD (order C) k 0)) (goals ++ plans ++ firsts ++ counts) (trains-low (λ k. getD (order C) k 0) (λ k l. order-low k))
           (every-append Low goals (plans ++ firsts ++ counts)
-          (trains-low (λ k. codeOf (lastStation C k)) (λ k l. omega (arith, known-code C sound (lastStation C k) (last-known C sound k l) .0)))
+          (trains-low (λ k. codeOf (lastStation C k)) (λ k l. omega (arith, known-few C sound (lastStation C k) (last-known C sound k l))))
           (every-append Low plans (firsts ++ counts) (trains-low (plan C) (λ k l. omega (arith, plan-most C sound k l, sound .in-window)))
           (every-append Low firsts counts (trains-low (λ k. firstArrival (trainAt C k .stops)) (λ k l. omega (arith, arrival-low C sound k, sound .in-window)))
           (trains-low (λ k. length (getD (C .tables) k [])) (λ k l. omega (arith, sound .few-pairs k l))))))
@@ -149,8 +139,8 @@ module _ (C : Case) (sound : Sound C) (bytes : ByteDelays C) where
           (rows-low (λ k d. pairAt C k d .weight) 8 weight-low (below 8))
 
   -- what the run asks of its tables
-  pub tables-small : Small (tables C)
-  tables-small i = let h : Low (getD (tables C) i 0) = every-anywhere Low (tables C) 0 (omega arith) tables-low i in omega arith
+  pub words-small : Small (tables C)
+  words-small i = let h : Low (getD (tables C) i 0) = every-anywhere Low (tables C) 0 (omega arith) tables-low i in omega arith
 
   pub tables-last : getD (tables C) 1 0 < 65535
-  tables-last = omega (arith, look-last C, sound .in-window)
+  tables-last = omega (arith, table-minute C, sound .in-window)

@@ -2,7 +2,7 @@
 -- The sum over the list after the pass is a sum over the list before it, and that the words show. Assumes nothing.
 use mathlib.Core.Path.{_≡_, refl, sym, ap, ap₂, _∙_}
 use mathlib.Core.Bool.{Bool, true, false, not, _&&_, cond, and-false}
-use mathlib.Core.List.{List, [], _∷_}
+use mathlib.Core.List.{List}
 use mathlib.Core.Option.{none, some}
 use Prim.Native.Nat.{ℕ, _+_, _*_, _<_}
 use native.Mathlib.Nat.{zero-mul, one-mul}
@@ -14,9 +14,10 @@ use Rattle.rules.specs.Lists.{one, each, tick, sum, keep, below}
 use Rattle.rules.specs.Files.{Case}
 use Rattle.rules.specs.Turns.{Place, same, Mark, stands, lastStation, asks, entered, arriving, State}
 use Rattle.rules.specs.Single.{minuteOf}
-use Rattle.sound.specs.Every.{and-true-left}
-use Rattle.weights.specs.Sums.{sum-keep}
-use Rattle.simulation.specs.Lists.{Every, every-each, every-all, every-one, sum-append, sum-each, sum-plus, sum-zero, sum-below-in}
+use Rattle.lists.specs.Tests.{and-true-first}
+use Rattle.lists.specs.Sums.{sum-keep, sum-append, sum-each, sum-plus, sum-zero}
+use Rattle.lists.specs.Every.{Every, every-each, every-all, every-one}
+use Rattle.lists.specs.Below.{sum-below-in}
 use Rattle.passes.specs.Lists.{sum-ones}
 use Rattle.passes.specs.Passes.{asksFor, admits, goes, passTrain}
 use Rattle.passes.specs.Walk.{asksFor-train}
@@ -95,7 +96,7 @@ module _ (C : Case) (t : ℕ) (p : Place) (k : ℕ) (low : k < length (C .trains
   arrivals-same =
       every-each (λ m. goes C t p k (s .list) m ≡ true) (λ m. m ≡ stands k p t) (arriving C t p)
       (λ m q. every-one (λ a. a ≡ stands k p t) (same p (lastStation C (m .train))) (stands (m .train) p t)
-      (λ r. ap (λ (j : ℕ). stands j p t) (asksFor-train C t p k m (and-true-left (asksFor C t p k m) (admits C p (s .list)) q))))
+      (λ r. ap (λ (j : ℕ). stands j p t) (asksFor-train C t p k m (and-true-first (asksFor C t p k m) (admits C p (s .list)) q))))
       (keep (goes C t p k (s .list)) (s .list)) (keep-passes (goes C t p k (s .list)) (s .list))
 
   abbrev arrivedTerm : Mark → ℕ

@@ -11,13 +11,13 @@ use lib.Seq.{ext-getD}
 use lib.Dec.{eqb}
 use borrow.Author.Tests.{ne-eqb}
 use Rattle.rules.specs.Lists.{each, keep, fold, below}
-use Rattle.rules.specs.Files.{Head, Case}
+use Rattle.rules.specs.Files.{Case}
 use Rattle.rules.specs.Turns.{Place, Mark, arriving, State, state}
 use Rattle.rules.specs.Single.{firstMarks, minuteOf, arrival}
 use Rattle.rules.specs.Calls.{choiceBroken}
 use Rattle.sound.specs.Facts.{Sound}
-use Rattle.sound.specs.Every.{length-span}
-use Rattle.simulation.specs.Lists.{Every, every-below}
+use Rattle.lists.specs.Below.{length-span, every-below}
+use Rattle.lists.specs.Every.{Every}
 use Rattle.simulation.specs.Start.{first-orderly}
 use Rattle.codes.specs.Codes.{placeOf}
 use Rattle.codes.specs.Tables.{order, tables}
@@ -26,7 +26,8 @@ use Rattle.passes.specs.Lists.{fold-map, fold-keeps}
 use Rattle.passes.specs.Passes.{goes, passTrain, cleared, elementPasses, minutePasses, minutesPasses, singlePasses}
 use Rattle.passes.specs.Single.{InOrder, passTrain-orderly, cleared-orderly, arrival-passes}
 use Rattle.single.specs.Words.{runSize, orderIn, servedIn, elementIn, minuteIn, startIn, soughtIn, answerIn}
-use Rattle.single.specs.Looks.{getD-below, look-trains, look-last, look-order}
+use Rattle.lists.specs.Below.{getD-below}
+use Rattle.codes.specs.Lookups.{table-trains, table-minute, table-order}
 use Rattle.single.specs.Sums.{orElse, minuteOf-append}
 use Rattle.single.specs.Shows as shows
 use Rattle.single.specs.Shows.{Shows, shows-cleared}
@@ -63,7 +64,7 @@ module _ (C : Case) (sound : Sound C) where
   order-words : map (orderIn (tables C)) (below n) ≡ order C
   order-words =
       ext-getD 0 (map (orderIn (tables C)) (below n)) (order C) (size ∙ sym (order-length C))
-      (λ i l. getD-below (orderIn (tables C)) n i (omega (arith, size)) ∙ look-order C i (few C sound (omega (arith, size))) (omega (arith, size)))
+      (λ i l. getD-below (orderIn (tables C)) n i 0 (omega (arith, size)) ∙ table-order C i (omega (arith, size)) (few C sound (omega (arith, size))))
     where
       size : length (map (orderIn (tables C)) (below n)) ≡ n
       size = length-map (below n) (orderIn (tables C)) ∙ length-span n 0
@@ -71,7 +72,7 @@ module _ (C : Case) (sound : Sound C) where
   element-order : (t e : ℕ) (w : List ℕ) → elementIn (tables C) t e w ≡ fold (servedIn (tables C) t e) (order C) w
   unfolding elementIn
   element-order t e w =
-      ap (λ (m : ℕ). fold (λ i u. servedIn (tables C) t e (orderIn (tables C) i) u) (below m) w) (look-trains C)
+      ap (λ (m : ℕ). fold (λ i u. servedIn (tables C) t e (orderIn (tables C) i) u) (below m) w) (table-trains C)
       ∙ sym (fold-map (servedIn (tables C) t e) (orderIn (tables C)) (below n) w)
       ∙ ap (λ (l : List ℕ). fold (servedIn (tables C) t e) l w) order-words
 
@@ -159,7 +160,7 @@ module _ (C : Case) (sound : Sound C) where
   unfolding answerIn singlePasses minutesPasses
   answer-arrival x unbroken k low =
       let e : suc (C .head .lastMinute) + 0 ≡ suc (C .head .lastMinute) = omega arith in
-      ap (λ (m : ℕ). soughtIn (tables C) k (suc m) 0 (startIn (tables C) x (replicate {A = ℕ} runSize 0))) (look-last C)
+      ap (λ (m : ℕ). soughtIn (tables C) k (suc m) 0 (startIn (tables C) x (replicate {A = ℕ} runSize 0))) (table-minute C)
       ∙ sought-arrival k low first (suc (C .head .lastMinute)) 0 0 (omega arith) (startIn (tables C) x (replicate {A = ℕ} runSize 0))
       (start-shows C sound x unbroken, first-orderly C x) refl
       ∙ ap (λ (i : ℕ). minuteNumber (minuteOf k (after first i .arrived))) e

@@ -11,20 +11,21 @@ use lib.ListN.{length, getD}
 use lib.Dec.{ltb, eqb}
 use borrow.Author.Tests.{ltb-true, ltb-false, eqb-true, eqb-false, lt-ltb, eq-eqb, ne-eqb}
 use Rattle.rules.specs.Lists.{one, tick, sum, count, below}
-use Rattle.rules.specs.Files.{Head, Case}
+use Rattle.rules.specs.Files.{Case}
 use Rattle.rules.specs.Turns.{Place, same, Mark, stands, block, lastStation, asks, dueAgain, leaving, entered, State}
 use Rattle.rules.specs.Turns.Place.{outside}
 use Rattle.rules.specs.Single.{minuteOf}
 use Rattle.sound.specs.Facts.{Sound}
-use Rattle.simulation.specs.Places.{same-self}
+use Rattle.sound.specs.Ways.{same-self}
 use Rattle.simulation.specs.Orderly.{isAt, at-once}
 use Rattle.codes.specs.Codes.{placeOf}
 use Rattle.codes.specs.Tables.{stayOn, tables}
 use Rattle.passes.specs.Passes.{admits, passTrain}
 use Rattle.passes.specs.Single.{InOrder}
 use Rattle.single.specs.Words.{enteredIn, servedIn}
-use Rattle.single.specs.Codes.{same-codes}
-use Rattle.single.specs.Looks.{look-safety, look-stay}
+use Rattle.codes.specs.Places.{same-codes}
+use Rattle.codes.specs.Lookups.{table-safety}
+use Rattle.single.specs.Looks.{look-stay}
 use Rattle.single.specs.Sums.{sum-below, sum-change, sum-term, orElse, orElse-none}
 use Rattle.single.specs.Shows.{standsIn, blockIn, endIn, blockTerm, standsSum, blocksSum, minuteIn, Shows}
 use Rattle.single.specs.Passing.{going, pass-sums, pass-arrived}
@@ -176,7 +177,7 @@ module _ (C : Case) (sound : Sound C) (t e k : ℕ) (low : k < length (C .trains
       new : blockTerm t w′ f here k ≡ f left
       new =
           let v : t + C .head .safety + 1 - 1 ≡ t + C .head .safety = omega arith in
-          ap (termOf f here k) (entered-block (tables C) t e k w mine (h .placed k low) (h .size) l ∙ ap (λ (x : ℕ). t + x + 1) (look-safety C))
+          ap (termOf f here k) (entered-block (tables C) t e k w mine (h .placed k low) (h .size) l ∙ ap (λ (x : ℕ). t + x + 1) (table-safety C))
           ∙ ap₂ (λ (b : Bool) (x : ℕ). tick b * f (block k (placeOf here) x)) (lt-ltb t (t + C .head .safety + 1) (omega arith)) v
           ∙ one-mul (f left)
 

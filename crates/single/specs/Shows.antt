@@ -11,10 +11,10 @@ use lib.ListN.{length, getD}
 use lib.Dec.{ltb}
 use borrow.Author.Tests.{ltb-true, ltb-false, lt-ltb, le-ltb}
 use Rattle.rules.specs.Lists.{tick, sum, below}
-use Rattle.rules.specs.Files.{Head, Case}
-use Rattle.rules.specs.Turns.{Place, Mark, stands, block, ended, State}
+use Rattle.rules.specs.Files.{Case}
+use Rattle.rules.specs.Turns.{Mark, stands, block, ended, State}
 use Rattle.rules.specs.Single.{minuteOf}
-use Rattle.weights.specs.Sums.{sum-keep}
+use Rattle.lists.specs.Sums.{sum-keep}
 use Rattle.codes.specs.Codes.{placeOf}
 use Rattle.passes.specs.Passes.{cleared}
 use Rattle.single.specs.Words.{runSize}

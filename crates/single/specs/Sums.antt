@@ -12,13 +12,15 @@ use borrow.Author.Tests.{lt-ltb, ltb-true}
 use Rattle.rules.specs.Lists.{sum, below}
 use Rattle.rules.specs.Turns.{Mark}
 use Rattle.rules.specs.Single.{minuteOf}
-use Rattle.simulation.specs.Lists.{Every, below-amid, every-below, sum-append, sum-same}
+use Rattle.lists.specs.Every.{Every}
+use Rattle.lists.specs.Sums.{sum-append, sum-every}
+use Rattle.lists.specs.Below.{below-amid, every-below}
 
 -- ---- sums over numbers
 
 -- terms that are equal below n
 pub sum-below : (f g : ℕ → ℕ) (n : ℕ) → ((k : ℕ) → k < n → f k ≡ g k) → sum f (below n) ≡ sum g (below n)
-sum-below f g n h = sum-same (λ k. k < n) f g h (below n) (every-below n)
+sum-below f g n h = sum-every (λ k. k < n) f g h (below n) (every-below n)
 
 module _ (f g : ℕ → ℕ) (n j : ℕ) (low : j < n) where
   -- terms that are equal but for one
@@ -31,8 +33,8 @@ module _ (f g : ℕ → ℕ) (n j : ℕ) (low : j < n) where
         ap (sum g) (a .split),
         sum-append f (a .front) (j ∷ a .back),
         sum-append g (a .front) (j ∷ a .back),
-        sum-same (λ k. k ≡ j → ⊥) f g h (a .front) (a .front-others),
-        sum-same (λ k. k ≡ j → ⊥) f g h (a .back) (a .back-others),
+        sum-every (λ k. k ≡ j → ⊥) f g h (a .front) (a .front-others),
+        sum-every (λ k. k ≡ j → ⊥) f g h (a .back) (a .back-others),
       )
 
 -- terms below n that are equal but for one

@@ -26,11 +26,11 @@ nearer-most e q b = go (leb e q) (ltb q b) refl refl
 
 -- a minimum over the numbers of a span
 module _ (e : ℕ) (q : ℕ → ℕ) where
-  least-most : (n k b : ℕ) → fold (λ i c. nearer e (q i) c) (span n k) b ≤ b
+  pub least-most : (n k b : ℕ) → fold (λ i c. nearer e (q i) c) (span n k) b ≤ b
   least-most zero k b = omega arith
   least-most (suc n) k b = omega (arith, nearer-most e (q k) b .0, least-most n (suc k) (nearer e (q k) b))
 
-  least-each : (n k b i : ℕ) → k ≤ i → i < k + n → e ≤ q i → fold (λ j c. nearer e (q j) c) (span n k) b ≤ q i
+  pub least-each : (n k b i : ℕ) → k ≤ i → i < k + n → e ≤ q i → fold (λ j c. nearer e (q j) c) (span n k) b ≤ q i
   least-each zero k b i l m h = absurd (omega arith)
   least-each (suc n) k b i l m h = go (eqb i k) refl (least-each n (suc k) (nearer e (q k) b) i)
     where
@@ -42,14 +42,14 @@ module _ (e : ℕ) (q : ℕ → ℕ) where
           omega (arith, nearer-most e (q k) b .1 from, least-most n (suc k) (nearer e (q k) b))
       go false r ih = let other : i ≡ k → ⊥ = eqb-false i k r in ih (omega arith) (omega arith) h
 
-  least-from : (n k b : ℕ) → e ≤ b → e ≤ fold (λ i c. nearer e (q i) c) (span n k) b
+  pub least-from : (n k b : ℕ) → e ≤ b → e ≤ fold (λ i c. nearer e (q i) c) (span n k) b
   least-from zero k b h = h
   least-from (suc n) k b h = least-from n (suc k) (nearer e (q k) b) (nearer-most e (q k) b .2 h)
 
 -- ---- what changes nothing
 
 module _ {ℓ} {S : Type ℓ} (f : ℕ → S → S) where
-  fold-stays : (s : S) (n k : ℕ) → ((i : ℕ) → i < n + k → f i s ≡ s) → fold f (span n k) s ≡ s
+  pub fold-stays : (s : S) (n k : ℕ) → ((i : ℕ) → i < n + k → f i s ≡ s) → fold f (span n k) s ≡ s
   fold-stays s zero k h = refl
   fold-stays s (suc n) k h = ap (fold f (span n (suc k))) (h k (omega arith)) ∙ fold-stays s n (suc k) (λ i l. h i (omega arith))
 
@@ -97,7 +97,7 @@ module _ (T : List ℕ) (t : ℕ) (w : List ℕ) (a : ℕ) (low : a ≤ 65) wher
 abbrev sought-turn : List ℕ → ℕ → ℕ → ℕ → List ℕ → ℕ
 sought-turn T k n t u = cond (eqb (getD u (16 + k) 0) 0) (soughtIn T k n t u) (getD u (16 + k) 0 - 1)
 
-sought-next : (T : List ℕ) (k last t : ℕ) (w : List ℕ) → t ≤ last
+pub sought-next : (T : List ℕ) (k last t : ℕ) (w : List ℕ) → t ≤ last
     → soughtIn T k (suc last - t) t w ≡ sought-turn T k (suc last - (t + 1)) (t + 1) (minuteIn T t w)
 unfolding soughtIn
 sought-next T k last t w h =

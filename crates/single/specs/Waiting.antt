@@ -11,19 +11,20 @@ use lib.Seq.{getD-set-same, getD-set-other}
 use lib.Dec.{ltb, eqb}
 use borrow.Author.Tests.{eqb-true, eqb-false}
 use Rattle.rules.specs.Lists.{tick, sum, fold, span, below}
-use Rattle.rules.specs.Files.{Pair, Case}
-use Rattle.rules.specs.Turns.{Mark, stands, trainAt, State, state}
+use Rattle.rules.specs.Files.{Case}
+use Rattle.rules.specs.Turns.{Mark, stands, trainAt, state}
 use Rattle.rules.specs.Turns.Place.{outside}
 use Rattle.rules.specs.Single.{pairAt, firstArrival, waits, firstMarks}
 use Rattle.rules.specs.Calls.{choiceBroken}
 use Rattle.sound.specs.Facts.{Sound}
-use Rattle.simulation.specs.Lists.{sum-map, sum-zero}
+use Rattle.lists.specs.Sums.{sum-map, sum-zero}
 use Rattle.simulation.specs.Start.{choice-at}
 use Rattle.simulation.specs.Choices.{unbroken-choice}
 use Rattle.codes.specs.Codes.{placeOf}
 use Rattle.codes.specs.Tables.{tables}
 use Rattle.single.specs.Words.{runSize, waitsIn, startIn}
-use Rattle.single.specs.Looks.{look-first, look-delay}
+use Rattle.codes.specs.Lookups.{table-first}
+use Rattle.single.specs.Looks.{look-delay}
 use Rattle.single.specs.Sums.{sum-below}
 use Rattle.single.specs.Shows.{minuteIn, standsIn, blockIn, blockTerm, blocksSum, Shows}
 use Rattle.single.specs.Asking.{few}
@@ -102,7 +103,7 @@ module _ (C : Case) (sound : Sound C) (x : List ℕ) (unbroken : choiceBroken C 
 
   first-due : (k : ℕ) → k < n → dueIn (tables C) x k ≡ firstArrival (trainAt C k .stops) + pairAt C k (getD x k 0) .delay
   first-due k l =
-      ap₂ _+_ (look-first C k (few C sound l) l)
+      ap₂ _+_ (table-first C k l (few C sound l))
       (look-delay C k (few C sound l) (getD x k 0) (omega (arith, choice-at C sound x (unbroken-choice C sound x unbroken) k l, sound .few-pairs k l)))
 
   first-stands : (k : ℕ) → k < n → waits C k (getD x k 0) ≡ standsIn w k

@@ -77,6 +77,27 @@ nearer e q b = cond (leb e q) (cond (ltb q b) q b) b
 unfoldable pub nearestIn : List ℕ → ℕ → List ℕ → ℕ → ℕ
 nearestIn T t w e = fold (λ i b. nearer e (wanted T t w (orderIn T i)) b) (below (trainsIn T)) 65
 
+-- ---- the next minute in which somebody can be let in
+
+-- the later of two minutes
+unfoldable pub later : ℕ → ℕ → ℕ
+later a b = cond (ltb a b) b a
+
+-- the first minute after t in which a block on e has ended, if it comes before b
+unfoldable pub freedIn : List ℕ → ℕ → ℕ → List ℕ → ℕ → ℕ
+freedIn T t e w b = fold (λ k c. nearer (t + 1) (getD w (24 + e * 8 + k) 0) c) (below (trainsIn T)) b
+
+-- before this minute train k is not let in from t on, if it comes before b: when it becomes due, or, if it is held, when a block on what it asks for has ended
+unfoldable pub readyIn : List ℕ → ℕ → List ℕ → ℕ → ℕ → ℕ
+readyIn T t w k b =
+    let from = later t (getD w (8 + k) 0) in
+    let e = wanted T from w k in
+    cond (ltb from b) (cond (ltb e 65) (cond (ltb t from) from (cond (lets T from e w) from (freedIn T from e w b))) b) b
+
+-- the first of these minutes, 65,536 for none: until then nobody moves
+unfoldable pub nextIn : List ℕ → ℕ → List ℕ → ℕ
+nextIn T t w = fold (λ i b. readyIn T t w (orderIn T i) b) (below (trainsIn T)) 65536
+
 -- ---- the run
 
 -- train k waits outside, with the delay of index d

@@ -3,7 +3,7 @@ ghost use mathlib.Core.Path.{_≡_};
 ghost use Prim.Native.Nat.{ℕ, suc, _+_, _*_, _≤_, _<_};
 ghost use lib.ListN.{getD};
 ghost use Rattle.single.specs.Runs.{Arrives};
-ghost use Rattle.single.specs.Words.{Small, wanted, holding, crowd, lets, leftIn, stoodIn, arrivedIn, enteredIn, servedIn, elementIn, minuteIn, nearestIn, waitsIn, startIn, soughtIn, answerIn};
+ghost use Rattle.single.specs.Words.{Small, wanted, holding, crowd, lets, leftIn, stoodIn, arrivedIn, enteredIn, servedIn, elementIn, minuteIn, nearestIn, freedIn, readyIn, nextIn, waitsIn, startIn, soughtIn, answerIn};
 
 // The code of the element that train k asks for in minute t, 127 for none.
 fn wanted(tables: &[u64], run: &[u64], t: u64, k: u64) -> u64
@@ -179,6 +179,69 @@ fn minute(tables: &[u64], run: &mut [u64], t: u64)
     }
 }
 
+// The later of two minutes.
+fn later(a: u64, b: u64) -> u64
+    ensures { λ r. ⌜ r ≡ Rattle.single.specs.Words.later a b ⌝ }
+{
+    if a < b {
+        return b;
+    }
+    a
+}
+
+// The first minute after t in which a block on e has ended, if it comes before bound.
+fn freed(tables: &[u64], run: &[u64], t: u64, e: u64, bound: u64) -> u64
+    requires { ⌜ Small (now tables) × (t < 65536) × (e < 65) ⌝ }
+    ensures { λ r. ⌜ r ≡ freedIn (now (tables .entry)) t e (now (run .entry)) bound ⌝ }
+{
+    let n = words::at(tables, 0);
+    let mut best = bound;
+    let mut k: u64 = 0;
+    while k < n {
+        let end = words::at(run, 24 + e * 8 + k);
+        best = nearer(t + 1, end, best);
+        k += 1;
+    }
+    best
+}
+
+// Before this minute train k is not let in from t on, if it comes before bound: when it becomes due, or, if it is held, when a block has ended.
+fn ready(tables: &[u64], run: &[u64], t: u64, k: u64, bound: u64) -> u64
+    requires { ⌜ Small (now tables) × (k < 4294967296) × (bound ≤ 65536) ⌝ }
+    ensures { λ r. ⌜ r ≡ readyIn (now (tables .entry)) t (now (run .entry)) k bound ⌝ }
+{
+    let from = later(t, words::at(run, 8 + k));
+    if from < bound {
+        let e = wanted(tables, run, from, k);
+        if e < 65 {
+            if t < from {
+                return from;
+            }
+            if lets(tables, run, from, e) {
+                return from;
+            }
+            return freed(tables, run, from, e, bound);
+        }
+    }
+    bound
+}
+
+// The first minute from t on in which somebody becomes due or a train that is held can be let in, 65,536 for none: until then nobody moves.
+fn next(tables: &[u64], run: &[u64], t: u64) -> u64
+    requires { ⌜ Small (now tables) × (t ≤ 65536) ⌝ }
+    ensures { λ r. ⌜ r ≡ nextIn (now (tables .entry)) t (now (run .entry)) ⌝ }
+{
+    let n = words::at(tables, 0);
+    let mut best: u64 = 65536;
+    let mut i: u64 = 0;
+    while i < n {
+        let k = words::at(tables, 8 + i);
+        best = ready(tables, run, t, k, best);
+        i += 1;
+    }
+    best
+}
+
 // The choice's index for train k, and 0 past its end.
 fn index(choice: &[u8], k: u64) -> u64
     ensures { λ r. ⌜ (r ≡ getD (now (choice .entry)) k 0) × (r < 256) ⌝ }
@@ -220,7 +283,7 @@ fn wait(tables: &[u64], run: &mut [u64], k: u64, d: u64)
     words::put(run, 8 + k, due);
 }
 
-// The minute in which train k arrives, sought minute by minute from 0 to the last; 65,535 for none.
+// The minute in which train k arrives, sought from 0 to the last in the minutes in which somebody can be let in; 65,535 for none.
 fn seek(tables: &[u64], run: &mut [u64], k: u64) -> u64
     requires { ⌜ Small (now tables) × (k < 4294967296) × (getD (now tables) 1 0 < 65535) ⌝ }
     ensures { λ r. ⌜ r ≡ soughtIn (now (tables .entry)) k (suc (getD (now (tables .entry)) 1 0)) 0 (now (run .entry)) ⌝ }
@@ -233,7 +296,7 @@ fn seek(tables: &[u64], run: &mut [u64], k: u64) -> u64
         if after != 0 {
             return after - 1;
         }
-        t += 1;
+        t = next(tables, run, t + 1);
     }
     65535
 }

@@ -14,8 +14,9 @@ use Rattle.rules.specs.Refusals.Result.{answer}
 use Rattle.rules.specs.Files.{Train, Table, Contents, File, endRules, read, Case, tablesOf, firstPairs, lacking, caseOf, files, repeats}
 use Rattle.rules.specs.Files.File.{case, book}
 use Rattle.rules.specs.Turns.{Place, headIs, trainAt, ahead, absent}
-use Rattle.sound.specs.Facts.{Every, Steps, Joined, SoundHead, SoundTrain, SoundPairs, Sound}
-use Rattle.sound.specs.Every.{or-three-false, eqb-zero-false, every-append, every-keep, every-image, every-map, every-at, every-anywhere}
+use Rattle.lists.specs.Every.{Every, every-append, every-keep, every-image, every-more, every-at, every-anywhere}
+use Rattle.sound.specs.Facts.{Steps, Joined, SoundHead, SoundTrain, SoundPairs, Sound}
+use Rattle.lists.specs.Tests.{or-three-false, eqb-zero-false}
 use Rattle.sound.specs.Verdicts.{refused-answer, answer-answer, then-answer, Unbroken}
 use Rattle.sound.specs.Reading.{read-keeps}
 use Rattle.sound.specs.Kept.{Kept, kept-empty, kept-more, Headed, headed-more}
@@ -101,7 +102,7 @@ tables-sound : (c k : Contents) → Kept c → Kept k → Every (λ t. 1 ≤ len
 unfolding caseOf tablesOf
 tables-sound c k p q e =
     every-image SoundPairs (λ t. firstPairs (tablesOf c k (t .type))) (c .trains)
-    (every-map (λ t n. first-sound (tablesOf c k (t .type)) n (every-keep S (λ d. eqb (d .type) (t .type)) (c .tables ++ k .tables) all)) (c .trains) e)
+    (every-more _ _ (λ t n. first-sound (tablesOf c k (t .type)) n (every-keep S (λ d. eqb (d .type) (t .type)) (c .tables ++ k .tables) all)) (c .trains) e)
   where
     S : Table → Type 0
     S d = SoundPairs (d .pairs)
@@ -120,7 +121,7 @@ trains-onward C n T e k = ahead-shorter C k (path .0) (path .1)
     Onward t = (repeats (map (λ s. s .station) (t .stops)) ≡ false) × Steps (Joined (C .tracks)) (t .stops)
 
     path : Onward (trainAt C k)
-    path = every-anywhere Onward (C .trains) absent (refl, tt) (every-map (λ t s. (s .no-repeat, s .joined)) (C .trains) e) k
+    path = every-anywhere Onward (C .trains) absent (refl, tt) (every-more _ _ (λ t s. (s .no-repeat, s .joined)) (C .trains) e) k
 
 case-sound : (c k : Contents) → Kept c → Kept k → Complete c → Every (λ t. 1 ≤ length (tablesOf c k (t .type))) (c .trains) → Sound (caseOf c k)
 unfolding caseOf

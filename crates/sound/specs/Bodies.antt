@@ -12,16 +12,20 @@ use borrow.Author.Tests.{ltb-false, leb-false, eqb-true, eqb-false, not-false}
 use Rattle.rules.specs.Lists.{any, sum, below, has}
 use Rattle.rules.specs.Files.{Head, Track, Stop, Train, Pair, Table, Contents, stopOf, trainOf, pairOf, tableOf, lengths, notIn, headRules, stationRules, unknown, leads, trackRules, anyStep, repeats, pathBroken, lastOf, timesBroken, trainRules, rising, tableRules, size, body}
 use Rattle.sound.specs.Facts.{SoundHead, SoundCapacity, SoundTrack, SoundTrain, SoundPairs}
-use Rattle.sound.specs.Every.{or-false-left, or-false-right, or-three-false, eqb-zero-false, sum-at, any-none, has-every, length-span, anyStep-none}
+use Rattle.lists.specs.Tests.{or-false-first, or-false-second, or-three-false, eqb-zero-false}
+use Rattle.lists.specs.Every.{fails-every, has-every}
+use Rattle.lists.specs.Sums.{sum-at}
+use Rattle.lists.specs.Below.{length-span}
+use Rattle.sound.specs.Steps.{anyStep-none}
 use Rattle.sound.specs.Verdicts.{Unbroken}
 
 -- ---- ranges
 
 notIn-low : (low high n : ℕ) → notIn low high n ≡ false → low ≤ n
-notIn-low low high n h = ltb-false n low (or-false-left (ltb n low) (ltb high n) h)
+notIn-low low high n h = ltb-false n low (or-false-first (ltb n low) (ltb high n) h)
 
 notIn-high : (low high n : ℕ) → notIn low high n ≡ false → n ≤ high
-notIn-high low high n h = ltb-false high n (or-false-right (ltb n low) (ltb high n) h)
+notIn-high low high n h = ltb-false high n (or-false-second (ltb n low) (ltb high n) h)
 
 capacity-sound : (n : ℕ) → notIn 1 255 n ≡ false → SoundCapacity n
 capacity-sound n h = record { some = notIn-low 1 255 n h; few = notIn-high 1 255 n h }
@@ -63,7 +67,7 @@ track-sound c r u = record {
     ends : (strange (r .from) ≡ false) × (strange (r .to) ≡ false) × (eqb (r .from) (r .to) ≡ false)
     ends =
         or-three-false (strange (r .from)) (strange (r .to)) (eqb (r .from) (r .to))
-        (or-false-left (strange (r .from) || strange (r .to) || eqb (r .from) (r .to)) again (u .1 .0))
+        (or-false-first (strange (r .from) || strange (r .to) || eqb (r .from) (r .to)) again (u .1 .0))
 
 -- ---- trains and tables
 
@@ -73,10 +77,10 @@ unfolding trainRules pathBroken timesBroken unknown
 train-sound c t some few u = record {
   some-stops = some;
   few-stops = few;
-  known-stations = any-none strange (λ s. leb-false (length (c .stations)) (s .station)) (t .stops) (path .0);
+  known-stations = fails-every _ strange (λ s. leb-false (length (c .stations)) (s .station)) (t .stops) (path .0);
   no-repeat = path .1;
   joined = anyStep-none trackless (λ a b. not-false (any (leads (a .station) (b .station)) (c .tracks))) (t .stops) (path .2);
-  stays = any-none early (λ s. ltb-false (s .departure) (s .arrival)) (t .stops) (times .0);
+  stays = fails-every _ early (λ s. ltb-false (s .departure) (s .arrival)) (t .stops) (times .0);
   drives = anyStep-none backward (λ a b. leb-false (b .arrival) (a .departure)) (t .stops) (times .1);
   in-time = ltb-false (c .head .lastMinute) (lastOf (t .stops) .departure) (times .2);
 }
@@ -112,7 +116,7 @@ table-sound c d some few u = record {
   some-pair = some;
   few-pairs = few;
   delays-rise = not-false (rising delays) (rules .0);
-  some-weight = any-none weightless (λ p. eqb-zero-false (p .weight)) (d .pairs) (rules .1);
+  some-weight = fails-every _ weightless (λ p. eqb-zero-false (p .weight)) (d .pairs) (rules .1);
   light = sum-at (λ p. p .weight) (d .pairs) 100 (le-of-eq hundred);
   hundred = hundred;
 }
@@ -132,7 +136,7 @@ table-sound c d some few u = record {
     rules : (not (rising delays) ≡ false) × (any weightless (d .pairs) ≡ false) × (not (eqb weight 100) ≡ false)
     rules =
         or-three-false (not (rising delays)) (any weightless (d .pairs)) (not (eqb weight 100))
-        (or-false-left (not (rising delays) || any weightless (d .pairs) || not (eqb weight 100)) again (u .0))
+        (or-false-first (not (rising delays) || any weightless (d .pairs) || not (eqb weight 100)) again (u .0))
 
     hundred : weight ≡ 100
     hundred = eqb-true weight 100 (not-false (eqb weight 100) (rules .2))

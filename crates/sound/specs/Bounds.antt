@@ -14,8 +14,8 @@ use Rattle.rules.specs.Refusals.{verdict, Result, unless}
 use Rattle.rules.specs.Refusals.Result.{answer}
 use Rattle.rules.specs.Files.{Contents, File, fileNumber, byte, trainOf, tableOf, known, inPlace, lengths, size, body, fieldRules, more, readField, readFields, empty, read}
 use Rattle.rules.specs.Files.File.{case, book}
-use Rattle.sound.specs.Facts.{Every}
-use Rattle.sound.specs.Every.{every-more, length-more, has-every}
+use Rattle.lists.specs.Every.{Every, every-append-one, has-every}
+use Rattle.sound.specs.Steps.{length-more}
 use Rattle.sound.specs.Verdicts.{Field, field-accepted, past, rest, withField, length-rest}
 use Rattle.sound.specs.Reading.{read-keeps}
 use Rattle.sound.specs.Kept.{Kept, kept-empty, kept-more, head-first, some-tag}
@@ -73,7 +73,7 @@ within-more f c at l d w = record {
   kept = kept-more f c at l d (w .kept);
   start = λ z. absurd (omega (arith, some-tag (byte l 0) (d .a-tag), z));
   extent = simp length-more extent;
-  places = every-more (λ t. t .place ≤ 819) (c .trains) (eqb (byte l 0) 4) (trainOf at (body l)) (w .places) (λ e. within-bytes at c w);
+  places = every-append-one (λ t. t .place ≤ 819) (c .trains) (eqb (byte l 0) 4) (trainOf at (body l)) (w .places) (λ e. within-bytes at c w);
 }
   where
     first : byte l 0 ≡ 1 → at ≡ 0

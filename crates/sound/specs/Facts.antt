@@ -7,12 +7,9 @@ use lib.ListN.{length, getD}
 use Rattle.rules.specs.Lists.{any, sum}
 use Rattle.rules.specs.Files.{Head, Track, Stop, Train, Pair, Case, leads, repeats, lastOf, rising}
 use Rattle.rules.specs.Turns.{Place, headIs, ahead}
+use Rattle.lists.specs.Every.{Every}
 
--- ---- every element of a list, every step of a path
-
-abbrev pub Every : {A : Type 0} → (A → Type 0) → List A → Type 0
-Every P [] = Unit {0}
-Every P (a ∷ l) = P a × Every P l
+-- ---- every step of a path
 
 abbrev pub Steps : (Stop → Stop → Type 0) → List Stop → Type 0
 Steps R [] = Unit {0}

@@ -12,8 +12,9 @@ use borrow.Author.Tests.{eqb-true, eq-eqb}
 use Rattle.rules.specs.Lists.{one, has}
 use Rattle.rules.specs.Files.{Head, Track, Train, Contents, File, byte, headOf, trackOf, trainOf, tableOf, known, inPlace, lengths, most, howMany, leads, bodyRules, size, body, more, empty}
 use Rattle.rules.specs.Files.File.{case, book}
-use Rattle.sound.specs.Facts.{Every, SoundHead, SoundCapacity, SoundTrack, SoundTrain, SoundPairs}
-use Rattle.sound.specs.Every.{every-more, every-map, any-append, few-more, has-every, steps-map}
+use Rattle.lists.specs.Every.{Every, every-append-one, every-more, any-append-first, has-every}
+use Rattle.sound.specs.Facts.{SoundHead, SoundCapacity, SoundTrack, SoundTrain, SoundPairs}
+use Rattle.sound.specs.Steps.{few-more, steps-map}
 use Rattle.sound.specs.Verdicts.{Unbroken, Field, withField}
 use Rattle.sound.specs.Bodies.{head-sound, station-sound, track-sound, train-sound, table-sound, body-length, train-stops, table-pairs}
 
@@ -57,9 +58,9 @@ train-grows : (n m : ℕ) → n ≤ m → (ts us : List Track) (T : ℕ) (t : Tr
 train-grows n m h ts us T t s = record {
   some-stops = s .some-stops;
   few-stops = s .few-stops;
-  known-stations = every-map (λ a k. le-trans k h) (t .stops) (s .known-stations);
+  known-stations = every-more _ _ (λ a k. le-trans k h) (t .stops) (s .known-stations);
   no-repeat = s .no-repeat;
-  joined = steps-map (λ a b j. any-append (leads (a .station) (b .station)) ts us j) (t .stops) (s .joined);
+  joined = steps-map (λ a b j. any-append-first (leads (a .station) (b .station)) ts us j) (t .stops) (s .joined);
   stays = s .stays;
   drives = s .drives;
   in-time = s .in-time;
@@ -167,16 +168,16 @@ module _ (f : File) (c : Contents) (at : ℕ) (l : List ℕ) (d : Field f c at l
     few-tracks = few-more 40 (c .tracks) (eqb tag 3) (trackOf (body l)) (k .few-tracks) (not-full-as 3);
     few-trains = few-more 7 (c .trains) (eqb tag 4) (trainOf at (body l)) (k .few-trains) (not-full-as 4);
     few-tables = few-more 8 (c .tables) (eqb tag 5) (tableOf (body l)) (k .few-tables) (not-full-as 5);
-    stations = every-more SoundCapacity (c .stations) (eqb tag 2) (byte (body l) 0) (k .stations) new-station;
-    tracks = every-map
+    stations = every-append-one SoundCapacity (c .stations) (eqb tag 2) (byte (body l) 0) (k .stations) new-station;
+    tracks = every-more _ _
         (track-grows (length (c .stations)) (length (now .stations)) more-stations)
         (now .tracks)
-        (every-more (SoundTrack (length (c .stations))) (c .tracks) (eqb tag 3) (trackOf (body l)) (k .tracks) new-track);
-    trains = every-map
+        (every-append-one (SoundTrack (length (c .stations))) (c .tracks) (eqb tag 3) (trackOf (body l)) (k .tracks) new-track);
+    trains = every-more _ _
         (train-grows (length (c .stations)) (length (now .stations)) more-stations (c .tracks) (one (eqb tag 3) (trackOf (body l))) (now .head .lastMinute))
         (now .trains)
-        (every-more (SoundTrain (length (c .stations)) (c .tracks) (now .head .lastMinute)) (c .trains) (eqb tag 4) (trainOf at (body l)) (old-trains k) new-train);
-    tables = every-more (λ d. SoundPairs (d .pairs)) (c .tables) (eqb tag 5) (tableOf (body l)) (k .tables) new-table;
+        (every-append-one (SoundTrain (length (c .stations)) (c .tracks) (now .head .lastMinute)) (c .trains) (eqb tag 4) (trainOf at (body l)) (old-trains k) new-train);
+    tables = every-append-one (λ d. SoundPairs (d .pairs)) (c .tables) (eqb tag 5) (tableOf (body l)) (k .tables) new-table;
     headed = λ z. absurd (omega (arith, some-tag tag (d .a-tag), z));
   }
 

@@ -1,5 +1,5 @@
 pub mod Facts
-pub mod Every
+pub mod Steps
 pub mod Ways
 pub mod Verdicts
 pub mod Reading

@@ -10,8 +10,7 @@ use Rattle.rules.specs.Refusals.{number, Rule, verdict, Refusal}
 use Rattle.rules.specs.Refusals.Result.{refused, answer}
 use Rattle.rules.specs.Files.{Train, Table, File, fileNumber, Contents, byte, headOf, trackOf, trainOf, tableOf, headRules, stationRules, trackRules, trainRules, tableRules, bodyRules, body, fieldRules, endRules, readField, readFields, empty, read, Case, tablesOf, lacking, caseOf, files}
 use Rattle.rules.specs.Files.File.{case, book}
-use Rattle.sound.specs.Facts.{Every}
-use Rattle.sound.specs.Every.{every-cond}
+use Rattle.lists.specs.Every.{Every, every-cond}
 use Rattle.sound.specs.Verdicts.{refused-answer, refused-refused, unless-refused, then-refused, verdict-few, field-accepted, past, rest, withField}
 use Rattle.sound.specs.Reading.{read-keeps}
 use Rattle.sound.specs.Bounds.{Within, within-empty, within-bytes, within-more}

@@ -1,24 +1,25 @@
--- What the runs may take from a sound case about a train's way: its places are known and all different, it has at most 16 of them, and its times are within the window.
+-- What the runs may take from a sound case about a train's way: its places are known and all different, and its times are within the window.
 -- Each is by induction on the train's stops; of a train that is not there the way is empty. Assumes nothing.
 use mathlib.Core.Path.{_≡_, refl}
 use mathlib.Core.Bool.{Bool, true, false, _||_, cond, false≢true}
 use mathlib.Core.List.{List, [], _∷_}
-use Prim.Native.Nat.{ℕ, suc, _*_, _≤_, _<_}
+use Prim.Native.Nat.{ℕ, suc, _≤_, _<_}
 use native.Mathlib.Omega.{arith}
 use lib.ListN.{length}
 use Rattle.rules.specs.Lists.{any}
-use Rattle.rules.specs.Files.{Head, Track, Stop, Train, Case, leads, lastOf}
-use Rattle.rules.specs.Turns.{Place, leg, absent, trainAt, trackFrom, legs, way}
+use Rattle.rules.specs.Files.{Track, Stop, Train, Case, leads, lastOf}
+use Rattle.rules.specs.Turns.{Place, same, Leg, leg, absent, trainAt, trackFrom, legs, way, plannedOn}
 use Rattle.rules.specs.Turns.Place.{outside, station, track, gone}
 use Rattle.rules.specs.Figures.{plan}
-use Rattle.sound.specs.Facts.{Every, Steps, Joined, SoundTrain, Sound}
-use Rattle.sound.specs.Every.{every-map, every-at, every-anywhere, every-last}
+use Rattle.lists.specs.Every.{Every, every-more, every-at, every-anywhere}
+use Rattle.sound.specs.Facts.{Steps, Joined, SoundTrain, Sound}
+use Rattle.sound.specs.Steps.{every-last}
 use Rattle.sound.specs.Ways.{Apart, legs-apart, legs-outside}
 
 -- what holds of each sound train, and of the train that is not there, holds at any number
 pub anywhere : (P : Train → Type 0) (C : Case) → Sound C → P absent
     → ((t : Train) → SoundTrain (length (C .stations)) (C .tracks) (C .head .lastMinute) t → P t) → (k : ℕ) → P (trainAt C k)
-anywhere P C s a f k = every-anywhere P (C .trains) absent a (every-map f (C .trains) (s .trains-sound)) k
+anywhere P C s a f k = every-anywhere P (C .trains) absent a (every-more _ _ f (C .trains) (s .trains-sound)) k
 
 -- ---- places
 
@@ -57,17 +58,6 @@ way-apart C s =
     anywhere (λ t. Apart (leg outside 0 ∷ legs (C .tracks) (t .stops))) C s (tt, tt)
     (λ t u. (legs-outside (C .tracks) (t .stops) (u .joined), legs-apart (C .tracks) (t .stops) (u .no-repeat) (u .joined)))
 
-legs-count : (ts : List Track) (stops : List Stop) → length (legs ts stops) ≡ 2 * length stops
-legs-count ts [] = refl
-legs-count ts (a ∷ []) = refl
-legs-count ts (a ∷ (b ∷ l)) = omega (arith, legs-count ts (b ∷ l))
-
-pub way-few : (C : Case) → Sound C → (k : ℕ) → length (way C k) ≤ 16
-unfolding way
-way-few C s =
-    anywhere (λ t. length (legs (C .tracks) (t .stops)) ≤ 16) C s (omega arith)
-    (λ t u. omega (arith, legs-count (C .tracks) (t .stops), u .few-stops))
-
 -- ---- times
 
 stops-in-time : (T : ℕ) (stops : List Stop) → Every (λ s. s .arrival ≤ s .departure) stops → Steps (λ a b. a .departure < b .arrival) stops
@@ -93,6 +83,15 @@ unfolding way
 way-planned C s =
     anywhere (λ t. Every (λ l. l .planned ≤ C .head .lastMinute) (legs (C .tracks) (t .stops))) C s tt
     (λ t u. legs-planned (C .tracks) (C .head .lastMinute) (t .stops) (train-in-time (length (C .stations)) (C .tracks) (C .head .lastMinute) t u) (u .stays))
+
+-- what is planned on one place is at most what is planned on any
+pub planned-low : (T : ℕ) (e : Place) (ls : List Leg) → Every (λ l. l .planned ≤ T) ls → plannedOn e ls ≤ T
+planned-low T e [] h = omega arith
+planned-low T e (l ∷ ls) h = go (same (l .place) e) (planned-low T e ls (h .1))
+  where
+    go : (b : Bool) → plannedOn e ls ≤ T → cond b (l .planned) (plannedOn e ls) ≤ T
+    go true q = h .0
+    go false q = q
 
 -- a train is planned to arrive by the last minute
 pub plan-most : (C : Case) → Sound C → (k : ℕ) → k < length (C .trains) → plan C k ≤ C .head .lastMinute

@@ -12,7 +12,7 @@ use Rattle.rules.specs.Refusals.{Fault, number, Rule, firstOf, verdict, Refusal
 use Rattle.rules.specs.Refusals.Fault.{overrun, unknownTag, misplaced, wrongLength, wrongCount, outOfRange, wrongEnds, wrongPath, wrongTimes, wrongTable, noTable, noRoom, tooHeavy, tooShort, wrongChoice, noTrain, stopTooLate}
 use Rattle.rules.specs.Refusals.Result.{refused, answer}
 use Rattle.rules.specs.Files.{File, Contents, byte, known, inPlace, lengths, most, howMany, size, body, bodyRules, fieldRules, more}
-use Rattle.sound.specs.Facts.{Every}
+use Rattle.lists.specs.Every.{Every}
 
 -- ---- refusals and answers
 

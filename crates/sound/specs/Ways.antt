@@ -8,13 +8,14 @@ use native.Mathlib.Nat.{le-refl}
 use native.Mathlib.Omega.{arith}
 use lib.ListN.{length, getD}
 use lib.Dec.{eqb}
-use borrow.Author.Tests.{eqb-true, eqb-false, ne-eqb}
+use borrow.Author.Tests.{eqb-true, eqb-false, eq-eqb, ne-eqb}
 use Rattle.rules.specs.Lists.{any, has}
 use Rattle.rules.specs.Files.{Track, Stop, Case, leads, repeats}
 use Rattle.rules.specs.Turns.{Place, same, Leg, leg, trackFrom, legs, trainAt, way, after, ahead, headIs}
 use Rattle.rules.specs.Turns.Place.{outside, station, track, gone}
-use Rattle.sound.specs.Facts.{Every, Steps, Joined}
-use Rattle.sound.specs.Every.{or-false-left, or-false-right, and-true-left, every-all, every-source, every-map, any-none}
+use Rattle.lists.specs.Every.{Every, every-all, every-source, every-more, fails-every}
+use Rattle.sound.specs.Facts.{Steps, Joined}
+use Rattle.lists.specs.Tests.{or-false-first, or-false-second, and-true-first}
 
 -- ---- places
 
@@ -37,6 +38,13 @@ same-true gone (station j) h = absurd (false≢true h)
 same-true gone (track j) h = absurd (false≢true h)
 same-true gone gone h = refl
 
+pub same-self : (p : Place) → same p p ≡ true
+unfolding same
+same-self outside = refl
+same-self (station i) = eq-eqb i i refl
+same-self (track i) = eq-eqb i i refl
+same-self gone = refl
+
 -- p is none of the places of the way
 abbrev pub Off : Place → List Leg → Type 0
 Off p ls = Every (λ l. same p (l .place) ≡ false) ls
@@ -46,13 +54,17 @@ abbrev pub Apart : List Leg → Type 0
 Apart [] = Unit {0}
 Apart (l ∷ ls) = Off (l .place) ls × Apart ls
 
-pub off-after : (p q : Place) (ls : List Leg) → Off p ls → Off p (after q ls)
-off-after p q [] o = tt
-off-after p q (l ∷ ls) o = go (same (l .place) q) (off-after p q ls (o .1))
+-- what every leg has, those after a place have
+pub after-every : (P : Leg → Type 0) (p : Place) (ls : List Leg) → Every P ls → Every P (after p ls)
+after-every P p [] h = tt
+after-every P p (l ∷ ls) h = go (same (l .place) p) (after-every P p ls (h .1))
   where
-    go : (b : Bool) → Off p (after q ls) → Off p (cond b ls (after q ls))
-    go true r = o .1
+    go : (b : Bool) → Every P (after p ls) → Every P (cond b ls (after p ls))
+    go true r = h .1
     go false r = r
+
+pub off-after : (p q : Place) (ls : List Leg) → Off p ls → Off p (after q ls)
+off-after p q ls o = after-every (λ l. same p (l .place) ≡ false) q ls o
 
 pub off-head : (p e : Place) (ls : List Leg) → Off p ls → headIs e ls ≡ true → same p e ≡ false
 off-head p e [] o h = absurd (false≢true h)
@@ -88,7 +100,7 @@ trackFrom-from a b (r ∷ ts) h = go (leads a b r) refl h (trackFrom-from a b ts
 
     go : (t : Bool) → leads a b r ≡ t → (t || any (leads a b) ts) ≡ true → (any (leads a b) ts ≡ true → getD froms (trackFrom a b ts) 0 ≡ a)
         → getD (r .from ∷ froms) (cond t 0 (suc (trackFrom a b ts))) 0 ≡ a
-    go true q h i = eqb-true (r .from) a (and-true-left (eqb (r .from) a) (eqb (r .to) b) q)
+    go true q h i = eqb-true (r .from) a (and-true-first (eqb (r .from) a) (eqb (r .to) b) q)
     go false q h i = i h
 
 -- ---- the places of a way
@@ -120,17 +132,17 @@ module _ (ts : List Track) where
           sym (trackFrom-from a b ts j) ∙ ap (λ (k : ℕ). getD (map (λ r. r .from) ts) k 0) e ∙ trackFrom-from s d ts h
 
   others : (a : ℕ) (stops : List Stop) → has (map (λ s. s .station) stops) a ≡ false → Every (λ s. eqb a (s .station) ≡ false) stops
-  others a stops h = every-source (λ s. eqb a s ≡ false) (λ s. s .station) stops (any-none (eqb a) (λ s n. n) (map (λ s. s .station) stops) h)
+  others a stops h = every-source (λ s. eqb a s ≡ false) (λ s. s .station) stops (fails-every _ (eqb a) (λ s n. n) (map (λ s. s .station) stops) h)
 
   pub legs-apart : (stops : List Stop) → repeats (map (λ s. s .station) stops) ≡ false → Steps (Joined ts) stops → Apart (legs ts stops)
   unfolding same
   legs-apart [] r j = tt
   legs-apart (a ∷ []) r j = ((refl, tt), (tt, tt))
   legs-apart (a ∷ (b ∷ l)) r j = (
-    (refl, legs-off (station (a .station)) refl (b ∷ l) (every-map (λ s. clear-station (a .station) (s .station)) (b ∷ l) others-of-a) (j .1)),
+    (refl, legs-off (station (a .station)) refl (b ∷ l) (every-more _ _ (λ s. clear-station (a .station) (s .station)) (b ∷ l) others-of-a) (j .1)),
     (
-      legs-off (track (trackFrom (a .station) (b .station) ts)) refl (b ∷ l) (every-map (λ s. clear-track (a .station) (b .station) (s .station) (j .0)) (b ∷ l) others-of-a) (j .1),
-      legs-apart (b ∷ l) (or-false-right (has stations (a .station)) (repeats stations) r) (j .1),
+      legs-off (track (trackFrom (a .station) (b .station) ts)) refl (b ∷ l) (every-more _ _ (λ s. clear-track (a .station) (b .station) (s .station) (j .0)) (b ∷ l) others-of-a) (j .1),
+      legs-apart (b ∷ l) (or-false-second (has stations (a .station)) (repeats stations) r) (j .1),
     ),
   )
     where
@@ -138,7 +150,7 @@ module _ (ts : List Track) where
       stations = map (λ s. s .station) (b ∷ l)
 
       others-of-a : Every (λ s. eqb (a .station) (s .station) ≡ false) (b ∷ l)
-      others-of-a = others (a .station) (b ∷ l) (or-false-left (has stations (a .station)) (repeats stations) r)
+      others-of-a = others (a .station) (b ∷ l) (or-false-first (has stations (a .station)) (repeats stations) r)
 
   pub legs-outside : (stops : List Stop) → Steps (Joined ts) stops → Off outside (legs ts stops)
   unfolding same

@@ -15,8 +15,7 @@ use Rattle.rules.specs.Refusals.{Rule, _when_, verdict, Result, unless}
 use Rattle.rules.specs.Refusals.Fault.{overrun, unknownTag, misplaced, wrongLength, wrongCount}
 use Rattle.rules.specs.Files.{File, fileNumber, Contents, byte, known, inPlace, lengths, most, howMany, bodyRules, size, body, fieldRules, more, readField, readFields, empty, read, files}
 use Rattle.rules.specs.Files.File.{case, book}
-use Rattle.sound.specs.Facts.{Every}
-use Rattle.sound.specs.Every.{every-cond, has-every}
+use Rattle.lists.specs.Every.{Every, every-cond, has-every}
 use Rattle.sound.specs.Verdicts.{Field, field-accepted, past, rest, withField}
 use Rattle.sound.specs.Bounds.{Within, within-empty, within-bytes, within-more, read-turns}
 

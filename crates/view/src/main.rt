@@ -3,39 +3,29 @@
 use fields::Field;
 use fields::refusals;
 use libc::STDIN_FILENO;
-use libc::STDOUT_FILENO;
 use viewer::Viewing;
-ghost use Rattle.io.specs.Counts.{Counts};
-
-fn space() -> bool {
-    io::write_all(STDOUT_FILENO, b" ")
-}
-
-fn line_end() -> bool {
-    io::write_all(STDOUT_FILENO, b"\n")
-}
 
 fn print_field(place: usize, tag: usize, size: usize) -> bool {
-    io::print_decimal(STDOUT_FILENO, place as u64);
-    space();
-    io::print_decimal(STDOUT_FILENO, tag as u64);
-    space();
-    io::print_decimal(STDOUT_FILENO, size as u64);
-    line_end()
+    console::number(place);
+    console::space();
+    console::number(tag);
+    console::space();
+    console::number(size);
+    console::line_end()
 }
 
 fn print_ended(place: usize) -> bool {
-    io::write_all(STDOUT_FILENO, b"ended ");
-    io::print_decimal(STDOUT_FILENO, place as u64);
-    line_end()
+    console::word(b"ended ");
+    console::number(place);
+    console::line_end()
 }
 
 fn print_refusal(place: usize) -> bool {
-    io::write_all(STDOUT_FILENO, b"refused ");
-    io::print_decimal(STDOUT_FILENO, refusals::OVERRUN as u64);
-    space();
-    io::print_decimal(STDOUT_FILENO, place as u64);
-    line_end()
+    console::word(b"refused ");
+    console::number(refusals::OVERRUN);
+    console::space();
+    console::number(place);
+    console::line_end()
 }
 
 // Prints what was given, and answers whether it was a field.
@@ -67,22 +57,6 @@ fn print_file(file: &[u8]) {
     }
 }
 
-// As many of the buffer's bytes as n says, or all.
-fn within(n: usize, buf: &[u8]) -> usize
-    ensures { λ r. ⌜ Counts r (now (buf .entry)) ⌝ }
-{
-    if n < buf.len() {
-        return n;
-    }
-    buf.len()
-}
-
-// The next n bytes of the input, as many as the buffer holds.
-fn next_bytes(n: usize, buf: &mut [u8]) -> usize {
-    let k = within(n, buf);
-    io::read_full(STDIN_FILENO, &mut buf[..k])
-}
-
 // Views the next file, and answers whether there was one.
 fn view_file() -> bool {
     let mut size = [0u8; 2];
@@ -91,8 +65,8 @@ fn view_file() -> bool {
     }
     let length = fields::word(&size, 0);
     let mut file = io::buffer();
-    next_bytes(length, &mut file);
-    let n = within(length, &file);
+    console::next_bytes(length, &mut file);
+    let n = console::within(length, &file);
     print_file(&file[..n]);
     true
 }

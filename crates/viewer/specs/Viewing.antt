@@ -8,6 +8,7 @@ use Rattle.rules.specs.Files.{Contents, more}
 use Rattle.fields.specs.declared.Field.{Field}
 use Rattle.fields.specs.declared.Field.the-variants.{Whole, Ended, Overrun}
 use Rattle.fields.specs.Fields.{fieldAt}
+use Rattle.viewer.specs.declared.Given.{Given}
 use Rattle.viewer.specs.declared.Viewing.{Viewing}
 
 -- the place after what was given at i: past a field; at the end and with refusal 1 the viewer stays
@@ -15,6 +16,10 @@ abbrev pub placeAfter : ℕ → Field → ℕ
 placeAfter i (Whole tag size end) = end
 placeAfter i Ended = i
 placeAfter i Overrun = i
+
+-- what a viewer at i gives, and where it stands then
+abbrev pub givenAt : List ℕ → ℕ → Given
+givenAt l i = record { field = fieldAt l i; next = placeAfter i (fieldAt l i) }
 
 -- the place of a viewer that stood at i and has given n times
 unfoldable pub placeFrom : ℕ → List ℕ → ℕ → ℕ

@@ -1,9 +1,9 @@
 // The field viewer of the planning desk: it holds a file's bytes and its place and gives one field after another. It judges no
-// tag and no length. The functions over the struct are thin; `view` and `nth` take plain parameters and serve every other caller.
+// tag and no length. The functions over the struct are thin; `give_at` and `nth` take plain parameters and serve every other caller.
 use fields::Field;
 ghost use mathlib.Core.Path.{_≡_};
 ghost use Rattle.fields.specs.Fields.{fieldAt};
-ghost use Rattle.viewer.specs.Viewing.{placeAfter, viewing};
+ghost use Rattle.viewer.specs.Viewing.{placeAfter, givenAt, viewing};
 
 pub struct Viewer<'a> {
     pub bytes: &'a [u8],
@@ -14,6 +14,12 @@ pub struct Viewer<'a> {
 pub struct Viewing {
     pub place: usize,
     pub field: Field,
+}
+
+// What a viewer gave, and the place at which it stands then.
+pub struct Given {
+    pub field: Field,
+    pub next: usize,
 }
 
 // The place after what was given: past a field; at the end and with refusal 1 it stays.
@@ -38,13 +44,6 @@ pub fn at<'a>(bytes: &'a [u8], place: usize) -> Viewer<'a>
     Viewer { bytes, place }
 }
 
-// What the viewer is to give next.
-pub fn shown<'a>(v: Viewer<'a>) -> Field
-    ensures { λ f. ⌜ f ≡ fieldAt (now (v .entry .bytes)) (v .entry .place) ⌝ }
-{
-    fields::field_at(v.bytes, v.place)
-}
-
 // Gives what stands at the viewer's place, and goes past it if it is a field.
 pub fn give<'s, 'a>(v: &'s mut Viewer<'a>) -> Field
     ensures { λ f. ⌜ (f ≡ fieldAt (now (now (v .entry) .bytes)) (now (v .entry) .place))
@@ -57,11 +56,16 @@ pub fn give<'s, 'a>(v: &'s mut Viewer<'a>) -> Field
     f
 }
 
-// What a viewer of the file gives at a place.
-pub fn view(file: &[u8], place: usize) -> Field
-    ensures { λ f. ⌜ f ≡ fieldAt (now (file .entry)) place ⌝ }
+// What a viewer of the file at a place gives, and where it stands then.
+pub fn give_at(file: &[u8], place: usize) -> Given
+    ensures { λ r. ⌜ r ≡ givenAt (now (file .entry)) place ⌝ }
 {
-    shown(at(file, place))
+    let mut v = at(file, place);
+    let field = give(&mut v);
+    Given {
+        field,
+        next: v.place,
+    }
 }
 
 // What a viewer that starts at the file's start gives after it has given n times.
@@ -71,19 +75,12 @@ pub fn nth(file: &[u8], n: usize) -> Viewing
     let mut left = n;
     let mut place = 0;
     loop {
-        let field = view(file, place);
+        let v = give_at(file, place);
         if left == 0 {
+            let field = v.field;
             return Viewing { place, field };
         }
-        let Field::Whole {
-            tag: _,
-            size: _,
-            end,
-        } = field
-        else {
-            return Viewing { place, field };
-        };
         left -= 1;
-        place = end;
+        place = v.next;
     }
 }

@@ -6,11 +6,11 @@ use Prim.Native.Nat.{ℕ, _+_, _*_, _/_, _%_, _^_, _≤_, _<_}
 use lib.ListN.{length, take, getD, set}
 use lib.Dec.{ltb, eqb}
 use Rattle.rules.specs.Lists.{any}
-use Rattle.simulation.specs.Lists.{Every}
+use Rattle.lists.specs.Every.{Every}
 use Rattle.rows.specs.Rows.{Row, rowsOf, endedOf}
 use Rattle.weigh.specs.Weigh.{broughtOf}
 use Rattle.asking.specs.declared.Job.{Job}
-use Rattle.asking.specs.Ask.{dueOf, asksOf, askerOf, jobOf}
+use Rattle.asking.specs.Ask.{dueOf, asksOf, askerOf, jobOf, reachOf}
 use Rattle.serving.specs.Pass.{coversOf, passedOf}
 use Rattle.waiting.specs.Calm.{spot, spotOf, Calm}
 use Rattle.waiting.specs.Notes.{stirIn, askedIn, toldAll, freshOf, Flagged}
@@ -84,6 +84,16 @@ pub record Ways (T : List ℕ) : Type 0 where
   pub one-place : (i j : ℕ) → i < 1024 → j < 1024 → i % 128 ≤ 65 → j % 128 ≤ 65 → i / 128 ≡ j / 128 → getD T (240 + i) 0 ≤ 64 → getD T (240 + i) 0 ≡ getD T (240 + j) 0
       → i ≡ j
   pub delays : (k : ℕ) → k < getD T 0 0 → 1 ≤ getD T (40 + k) 0
+
+-- rows of trains that there can be, at places that there can be
+abbrev pub Placed : List Row → Type 0
+Placed l = Every (λ r. (r .state / 524288 < 8) × (r .state / 4096 % 128 ≤ 65)) l
+
+-- the rows that ask are those that are reached from the key, a standing state of minute 0
+pub record Keyed (T : List ℕ) (t e k key : ℕ) (l : List Row) : Type 0 where
+  pub base : key % 4096 ≡ 0
+  pub low : key < 4294967296
+  pub asks : Every (λ r. asksOf T t e k (r .state) ≡ reachOf key t (r .state)) l
 
 -- what is noted of the rows l in minute t: they are calm, their minutes are shown, and none is a block that ended before t
 pub record Noted (T : List ℕ) (t : ℕ) (N : List ℕ) (l : List Row) : Type 0 where

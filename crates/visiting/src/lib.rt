@@ -3,13 +3,13 @@ ghost use mathlib.Core.Path.{_≡_};
 ghost use mathlib.Core.Bool.{true, false};
 ghost use Prim.Native.Nat.{_+_, _*_, _/_, _≤_, _<_};
 ghost use lib.ListN.{length, take, getD, set};
-ghost use Rattle.simulation.specs.Lists.{Every};
+ghost use Rattle.lists.specs.Every.{Every};
 ghost use Rattle.rows.specs.Rows.{rowsOf, rowsIn};
 ghost use Rattle.weigh.specs.Weigh.{Small};
-ghost use Rattle.asking.specs.Ask.{asksOf, Within};
+ghost use Rattle.asking.specs.Ask.{asksOf, reachOf, stirsOf, Within};
 ghost use Rattle.serving.specs.Pass.{Lent};
 ghost use Rattle.waiting.specs.Notes.{Flagged};
-ghost use Rattle.visiting.specs.Visit.{arrivedOf, showOf, wakeOf, settledOf, passOf, read, Kept, Ways, Noted, Seen};
+ghost use Rattle.visiting.specs.Visit.{arrivedOf, showOf, wakeOf, settledOf, passOf, read, Placed, Keyed, Kept, Ways, Noted, Seen};
 
 // The first n covers have entered: where the element is the train's last station, their weights arrive in the job's minute.
 pub fn arrive(
@@ -25,7 +25,7 @@ pub fn arrive(
     if n == 0 {
         return 0;
     }
-    if q.place != rows::at(tables, 16 + q.train) {
+    if q.place != words::at(tables, 16 + q.train) {
         return 0;
     }
     let x = weigh::brought(tables, covers, n);
@@ -50,7 +50,7 @@ pub fn wake_due(tables: &[u64], notes: &mut [u64], s: u64, t: u64, c: u64) -> us
     if !asking::due(s, t) {
         return 0;
     }
-    let e = rows::at(tables, 240 + s / 4096);
+    let e = words::at(tables, 240 + s / 4096);
     let i = s / 524288 * 128 + e;
     waiting::wake(notes, i as usize, c)
 }
@@ -69,7 +69,7 @@ pub fn settle(tables: &[u64], notes: &mut [u64], q: asking::Job, from: u64, move
     show(notes, q.blocks)
 }
 
-// The pass of train k for e, where row i is the first that asks. Returns the place after the last word, or the length of the rows for refusal 12.
+// The pass of train k for e, where row i is the first that is stirred. Returns the place after the last word, or the length of the rows for refusal 12.
 pub fn served(
     rows: &mut [u64],
     n: usize,
@@ -84,17 +84,18 @@ pub fn served(
     t: u64,
     e: u64,
     k: u64,
+    key: u64,
     u: u64,
 ) -> usize
     requires { ⌜ Lent (now tables) (now rows) (now tmp) (now met) (now held) (now entering) ⌝ }
     requires { ⌜ Within t e k × Small (now tables) × Ways (now tables) ⌝ }
-    requires { ⌜ (i < n) × (n * 2 < length (now rows)) × Every (λ x. asksOf (now tables) t e k (x .state) ≡ false) (rowsIn i (now rows)) × (asksOf (now tables) t e k (getD (now rows) (i * 2) 0) ≡ true) ⌝ }
-    requires { ⌜ Flagged (now notes) × Noted (now tables) t (now notes) (rowsIn n (now rows)) × (u ≡ getD (now notes) (k * 128 + e) 0) ⌝ }
+    requires { ⌜ (i < n) × (n * 2 < length (now rows)) × Every (λ x. stirsOf key t u x ≡ false) (rowsIn i (now rows)) × (reachOf key t (getD (now rows) (i * 2) 0) ≡ true) ⌝ }
+    requires { ⌜ Flagged (now notes) × Noted (now tables) t (now notes) (rowsIn n (now rows)) × Keyed (now tables) t e k key (rowsIn n (now rows)) × (u ≡ getD (now notes) (k * 128 + e) 0) ⌝ }
     ensures { λ r. ⌜ Seen (now (tables .entry)) t (passOf (now (tables .entry)) t e k (read (n * 2) (now (rows .entry)) (now (weights .entry)))) r (now (rows .exit)) (now (weights .exit)) (now (notes .exit)) ⌝ }
 {
     let s = rows[i * 2];
     let q = asking::assign(tables, t, e, k, s);
-    let z = serving::pass(rows, n, i, tmp, tables, met, held, entering, u, q);
+    let z = serving::pass(rows, n, i, tmp, met, held, entering, key, u, q);
     let _x = arrive(tables, entering, z.entering, weights, q);
     let _y = settle(tables, notes, q, s / 4096 % 128, z.moved);
     z.place
@@ -108,6 +109,18 @@ pub fn dismiss(notes: &mut [u64], i: usize) -> usize
     notes[i] = 0;
     notes[1152 + i] = 0;
     i
+}
+
+// The first of the first n rows that asks for e as train k, or n: few rows are asked one by one, and of many those of the one place that leads there.
+pub fn seek(rows: &[u64], n: usize, tables: &[u64], t: u64, e: u64, k: u64) -> usize
+    requires { ⌜ (n * 2 ≤ length (now rows)) × Within t e k × Ways (now tables) × Placed (rowsIn n (now rows)) ⌝ }
+    ensures { λ r. ⌜ (r ≤ n) × Every (λ x. asksOf (now (tables .entry)) t e k (x .state) ≡ false) (rowsIn r (now (rows .entry))) × (r < n → asksOf (now (tables .entry)) t e k (getD (now (rows .entry)) (r * 2) 0) ≡ true) ⌝ }
+{
+    if n < 64 {
+        return asking::first(rows, n, tables, t, e, k);
+    }
+    let p = asking::before(tables, k, e);
+    asking::first_reached(rows, n, k * 524288 + p * 4096, t)
 }
 
 // The pass of train k for e, where a row of the pair was stirred.
@@ -139,15 +152,22 @@ pub fn visit(
         return w;
     }
     let n = w / 2;
-    let f = asking::first(rows, n, tables, t, e, k);
+    let f = seek(rows, n, tables, t, e, k);
     if f == n {
         let _x = dismiss(notes, i);
+        return w;
+    }
+    let s = rows[f * 2];
+    let key = s - s % 4096;
+    let j = asking::next(rows, f, n, key, t, u);
+    if j == n {
+        notes[i] = 0;
         return w;
     }
     served(
         rows,
         n,
-        f,
+        j,
         tmp,
         tables,
         met,
@@ -158,6 +178,7 @@ pub fn visit(
         t,
         e,
         k,
+        key,
         u,
     )
 }

@@ -10,7 +10,8 @@ use borrow.Author.Tests.{eqb-true, eqb-false}
 use lib.Bits.{bitAnd}
 use lib.Dec.{eqb, ltb}
 use Rattle.rules.specs.Lists.{one, each}
-use Rattle.simulation.specs.Lists.{Every, each-append, every-more}
+use Rattle.lists.specs.Each.{each-append}
+use Rattle.lists.specs.Every.{Every, every-more}
 use Rattle.cut.specs.Cut.{fullOf}
 use Rattle.rows.specs.Rows.{Row, meetsOf, metOf}
 use Rattle.asking.specs.Ask.{nextOf, capOf}

@@ -15,7 +15,7 @@ pub fn set_weight(tables: &[u64], j: u64, x: u64) -> u64
     let mut sum = 0;
     while i < end {
         if left % 2 == 1 {
-            sum += rows::at(tables, i);
+            sum += words::at(tables, i);
         }
         left = left / 2;
         i += 1;
@@ -28,7 +28,7 @@ pub fn cover_weight(tables: &[u64], c: u64) -> u64
     requires { ⌜ Small (now tables) ⌝ }
     ensures { λ r. ⌜ r ≡ weightOf (now (tables .entry)) c ⌝ }
 {
-    let n = rows::at(tables, 0);
+    let n = words::at(tables, 0);
     let mut j = 0;
     let mut left = c;
     let mut product = 1;

@@ -1,13 +1,13 @@
 -- Demand 2: the weight that the joint run has added for a train in a minute is the weight of exactly those choices whose single run brings the train
 -- to its last station in that minute, and the weight not arrived that of the choices whose single run brings it there in no minute up to T.
--- Each choice sees its own single run, in which a train arrives at most once and by T. Assumes the two facts of the record `Seen`.
+-- Each choice sees its own single run, in which a train arrives at most once and by T. Takes `Seen`, which a sound case's run has, as given, and assumes nothing else.
 use mathlib.Core.Path.{_≡_, refl, sym, ap, _∙_}
 use mathlib.Core.Bool.{Bool, true, false, not, _&&_, cond, false≢true}
 use mathlib.Core.List.{List, [], _∷_, _++_}
 use mathlib.Core.Option.{Option, none, some}
 use mathlib.Core.Logic.{_↔_}
 use Prim.Native.Nat.{ℕ, suc, _+_, _*_, _≤_, _<_}
-use native.Mathlib.Nat.{mul-comm, mul-assoc, mul-zero, one-mul}
+use native.Mathlib.Nat.{mul-comm, mul-assoc, mul-zero, zero-mul, one-mul}
 use native.Mathlib.Omega.{arith}
 use lib.Dec.{eqb}
 use borrow.Author.Tests.{eqb-true, eq-eqb, ne-eqb}
@@ -18,14 +18,15 @@ use Rattle.rules.specs.Single.{single, minuteOf, arrival}
 use Rattle.rules.specs.Joint.{covers, choices, whole, weightOf, total, joint, weightAt}
 use Rattle.rules.specs.Listing.{window, notArrived}
 use Rattle.sound.specs.Facts.{Sound}
-use Rattle.weights.specs.Tests.{eqb-turn, has-below}
-use Rattle.weights.specs.Sums.{tick-split, tick-times, sum-same, sum-most, sum-times, sum-plus, sum-zero, sum-keep, sum-swap}
-use Rattle.weights.specs.All.{All, all-same, sum-all}
-use Rattle.weights.specs.All.All.{more}
-use Rattle.weights.specs.Part.{distinct-span, sum-point}
+use Rattle.lists.specs.Tests.{eqb-turn}
+use Rattle.lists.specs.Every.{Every, every-more}
+use Rattle.lists.specs.Below.{sum-below-in}
+use Rattle.lists.specs.Sums.{tick-split, tick-times, sum-same, sum-every, sum-less, sum-times, sum-plus, sum-zero, sum-keep, sum-swap}
 use Rattle.weights.specs.Choices.{weight-all, choices-whole}
-use Rattle.weights.specs.Entries.{view, weightAt-choices}
-use Rattle.weights.specs.Cutting.{joint-part}
+use Rattle.simulation.specs.View.{view}
+use Rattle.simulation.specs.Serving.{Proper}
+use Rattle.simulation.specs.Simulation.{joint-proper, single-kept, simulation}
+use Rattle.weights.specs.Entries.{weightAt-choices}
 use Rattle.weights.specs.Log.{single-logged, single-later}
 
 -- ---- the definitions
@@ -66,16 +67,25 @@ pub arrivesNever-arrival : (C : Case) (k : ℕ) (x : List ℕ) → (arrivesNever
 unfolding arrivesNever
 arrivesNever-arrival C k x = (is-never (arrival C x k), λ h. ap isNever h)
 
--- what each choice sees of the arrivals that the joint run has logged after minute m: those of its single run, each train at most once
+-- what each choice sees of the arrivals that the joint run has logged after minute m: those of its single run, each train at most once;
+-- and their covers are parts of the whole
 pub record Seen (C : Case) (m : ℕ) : Type 0 where
+  pub parts : Every (Proper C) (joint C m .arrived)
   pub seen : (x : List ℕ) → covers (whole C) x ≡ true → view x (joint C m .arrived) ≡ single C x m .arrived
   pub once : (x : List ℕ) → covers (whole C) x ≡ true → (k : ℕ) → count (λ v. eqb (v .train) k) (single C x m .arrived) ≤ 1
+
+pub joint-seen : (C : Case) → Sound C → (m : ℕ) → Seen C m
+joint-seen C sound m = record {
+  parts = joint-proper C sound m .1;
+  seen = λ x choice. simulation C sound x choice m .arrived;
+  once = λ x choice k. single-kept C sound x choice m .arrives-once k;
+}
 
 -- ---- the minute of a train that arrives at most once
 
 -- those that pass two tests are no more than those that pass the first
 count-both : {A : Type 0} (f g : A → Bool) (l : List A) → count (λ a. f a && g a) l ≤ count f l
-count-both f g l = sum-most (λ a. tick (f a && g a)) (λ a. tick (f a)) (λ a. go (f a) (g a)) l
+count-both f g l = sum-less (λ a. tick (f a && g a)) (λ a. tick (f a)) (λ a. go (f a) (g a)) l
   where
     go : (a b : Bool) → tick (a && b) ≤ tick a
     go true true = omega arith
@@ -99,12 +109,12 @@ abbrev pub By : ℕ → Option ℕ → Type 0
 By m none = Unit
 By m (some u) = u ≤ m
 
-minute-by : (m k : ℕ) {vs : List Mark} → All (λ v. v .minute ≤ m) vs → By m (minuteOf k vs)
-minute-by m k All.none = tt
-minute-by m k (more {a = v} {l = vs} h r) = go (eqb (v .train) k) (minute-by m k r)
+minute-by : (m k : ℕ) (vs : List Mark) → Every (λ v. v .minute ≤ m) vs → By m (minuteOf k vs)
+minute-by m k [] h = tt
+minute-by m k (v ∷ vs) h = go (eqb (v .train) k) (minute-by m k vs (h .1))
   where
     go : (b : Bool) → By m (minuteOf k vs) → By m (cond b (some (v .minute)) (minuteOf k vs))
-    go true ih = h
+    go true ih = h .0
     go false ih = ih
 
 -- what f gives for the minute, 0 if there is none
@@ -112,27 +122,24 @@ abbrev pub forMinute : (ℕ → ℕ) → Option ℕ → ℕ
 forMinute f none = 0
 forMinute f (some u) = f u
 
--- the minute of an arrival is at most T
-pub arrival-by : (C : Case) (x : List ℕ) (k : ℕ) → By (C .head .lastMinute) (arrival C x k)
-unfolding arrival
-arrival-by C x k = minute-by (C .head .lastMinute) k (single-logged C x (C .head .lastMinute))
-
 -- a sum over the window, of the train's minute alone
 window-minute : (f : ℕ → ℕ) (n : ℕ) (o : Option ℕ) → By n o → sum (λ t. f t * tick (isIn t o)) (below (suc n)) ≡ forMinute f o
 window-minute f n none h = sum-same _ (λ t. 0) (λ t. mul-zero (f t)) (below (suc n)) ∙ sum-zero (below (suc n))
 window-minute f n (some u) h =
     sum-same _ (λ t. tick (eqb t u) * f t) (λ t. mul-comm (f t) (tick (eqb u t)) ∙ ap (λ (b : Bool). tick b * f t) (eqb-turn u t)) (below (suc n))
-    ∙ sum-point f u (below (suc n)) (distinct-span (suc n) 0) (has-below (suc n) u (omega arith))
+    ∙ sum-below-in (λ t. tick (eqb t u) * f t) u (λ t q. ap (λ (b : Bool). tick b * f t) (ne-eqb t u q) ∙ zero-mul (f t)) (suc n) (omega arith)
+    ∙ ap (λ (b : Bool). tick b * f u) (eq-eqb u u refl)
+    ∙ one-mul (f u)
 
 -- arrivals logged later do not change whether a train arrives in an earlier minute
-minute-grown : (k t : ℕ) (vs : List Mark) {new : List Mark} → All (λ v. t < v .minute) new → isIn t (minuteOf k (vs ++ new)) ≡ isIn t (minuteOf k vs)
-minute-grown k t [] All.none = refl
-minute-grown k t [] (more {a = v} {l = new} h r) = go (eqb (v .train) k) (minute-grown k t [] r)
+minute-grown : (k t : ℕ) (vs new : List Mark) → Every (λ v. t < v .minute) new → isIn t (minuteOf k (vs ++ new)) ≡ isIn t (minuteOf k vs)
+minute-grown k t [] [] h = refl
+minute-grown k t [] (v ∷ new) h = go (eqb (v .train) k) (minute-grown k t [] new (h .1))
   where
     go : (b : Bool) → isIn t (minuteOf k new) ≡ false → isIn t (cond b (some (v .minute)) (minuteOf k new)) ≡ false
-    go true ih = ne-eqb (v .minute) t (λ e. omega arith)
+    go true ih = ne-eqb (v .minute) t (λ e. omega (arith, h .0))
     go false ih = ih
-minute-grown k t (v ∷ vs) {new} h = go (eqb (v .train) k) (minute-grown k t vs h)
+minute-grown k t (v ∷ vs) new h = go (eqb (v .train) k) (minute-grown k t vs new h)
   where
     go : (b : Bool) → isIn t (minuteOf k (vs ++ new)) ≡ isIn t (minuteOf k vs)
         → isIn t (cond b (some (v .minute)) (minuteOf k (vs ++ new))) ≡ isIn t (cond b (some (v .minute)) (minuteOf k vs))
@@ -145,12 +152,12 @@ minute-grown k t (v ∷ vs) {new} h = go (eqb (v .train) k) (minute-grown k t vs
 arrived-at : (C : Case) (m : ℕ) → Seen C m → (k t : ℕ)
     → weightAt C (joint C m .arrived) k t ≡ sum (λ x. tick (isIn t (minuteOf k (single C x m .arrived))) * weightOf C x) (choices C)
 arrived-at C m S k t =
-    weightAt-choices C (joint C m .arrived) k t (joint-part C m .arrived)
-    ∙ sum-all _ (λ x. tick (isIn t (minuteOf k (single C x m .arrived))) * weightOf C x)
+    weightAt-choices C (joint C m .arrived) k t (S .parts)
+    ∙ sum-every (λ x. covers (whole C) x ≡ true) _ (λ x. tick (isIn t (minuteOf k (single C x m .arrived))) * weightOf C x)
     (λ x c. ap (λ (n : ℕ). weightOf C x * n)
     (ap (λ (l : List Mark). count (λ v. eqb (v .train) k && eqb (v .minute) t) l) (S .seen x c) ∙ count-minute k t (single C x m .arrived) (S .once x c k))
     ∙ mul-comm (weightOf C x) (tick (isIn t (minuteOf k (single C x m .arrived)))))
-    (choices-whole C)
+    (choices C) (choices-whole C)
 
 -- the weight that the run stopped after minute m has added for train k in a minute t ≤ m is that of the choices whose single run brings it in in minute t
 pub arrived-weight : (C : Case) (m : ℕ) → Seen C m → m ≤ C .head .lastMinute → (k t : ℕ) → t ≤ m
@@ -168,13 +175,13 @@ arrived-weight C m S h k t l =
     later : (x : List ℕ) → isIn t (minuteOf k (single C x T .arrived)) ≡ isIn t (minuteOf k (single C x m .arrived))
     later x =
         let g = single-later C x m T h in
-        ap (λ (vs : List Mark). isIn t (minuteOf k vs)) (g .grown) ∙ minute-grown k t (single C x m .arrived) (all-same (λ v q. omega arith) (g .kind))
+        ap (λ (vs : List Mark). isIn t (minuteOf k vs)) (g .grown) ∙ minute-grown k t (single C x m .arrived) (g .new) (every-more (λ v. m < v .minute) (λ v. t < v .minute) (λ v q. omega arith) (g .new) (g .kind))
 
 -- a run stopped after minute m has added nothing in later minutes
 pub arrived-later : (C : Case) (m : ℕ) → Seen C m → (k t : ℕ) → m < t → weightAt C (joint C m .arrived) k t ≡ 0
 arrived-later C m S k t h =
     arrived-at C m S k t
-    ∙ sum-same _ (λ x. 0) (λ x. nothing x (minuteOf k (single C x m .arrived)) (minute-by m k (single-logged C x m))) (choices C)
+    ∙ sum-same _ (λ x. 0) (λ x. nothing x (minuteOf k (single C x m .arrived)) (minute-by m k (single C x m .arrived) (single-logged C x m))) (choices C)
     ∙ sum-zero (choices C)
   where
     nothing : (x : List ℕ) (o : Option ℕ) → By m o → tick (isIn t o) * weightOf C x ≡ 0
@@ -188,7 +195,7 @@ weightAt-most C sound m S k t =
       arith,
       arrived-at C m S k t,
       weight-all C sound,
-      sum-most (λ x. tick (arrives x) * weightOf C x) (weightOf C) (λ x. tick-times (arrives x) (weightOf C x)) (choices C),
+      sum-less (λ x. tick (arrives x) * weightOf C x) (weightOf C) (λ x. tick-times (arrives x) (weightOf C x)) (choices C),
     )
   where
     arrives : List ℕ → Bool
@@ -216,7 +223,7 @@ module _ (C : Case) (S : Seen C (C .head .lastMinute)) (k : ℕ) where
           sum-same _ (λ t. weightOf C x * (f t * tick (isIn t (o x))))
           (λ t. sym (mul-assoc (f t) (tick (isIn t (o x))) (weightOf C x)) ∙ mul-comm (f t * tick (isIn t (o x))) (weightOf C x)) (window C)
           ∙ sum-times (weightOf C x) (λ t. f t * tick (isIn t (o x))) (window C)
-          ∙ ap (λ (n : ℕ). weightOf C x * n) (window-minute f T (o x) (minute-by T k (single-logged C x T)))
+          ∙ ap (λ (n : ℕ). weightOf C x * n) (window-minute f T (o x) (minute-by T k (single C x T .arrived) (single-logged C x T)))
           ∙ mul-comm (weightOf C x) (forMinute f (o x))
 
   -- the weight that has arrived by T is that of the choices whose single run brings train k in by T

@@ -2,24 +2,23 @@
 -- A sum over the choices of a cover, one delay and then the rest, is the product of two sums; every law here is that, train by train.
 -- Assumes nothing.
 use mathlib.Core.Path.{_≡_, refl, sym, ap, ap₂, _∙_}
-use mathlib.Core.Bool.{Bool, true, false, _&&_, _||_, false≢true}
+use mathlib.Core.Bool.{Bool, true, false, _&&_, false≢true}
 use mathlib.Core.List.{List, [], _∷_, map}
-use Prim.Native.Nat.{ℕ, suc, _+_, _*_, _^_, _<_}
+use Prim.Native.Nat.{ℕ, suc, _+_, _*_, _^_, _≤_, _<_}
 use native.Mathlib.Nat.{mul-comm, zero-mul, pow-succ'}
 use native.Mathlib.Omega.{arith}
 use lib.ListN.{length, getD}
 use lib.Dec.{eqb}
-use borrow.Author.Tests.{eqb-true, eq-eqb}
+use borrow.Author.Tests.{eqb-true}
 use Rattle.rules.specs.Lists.{each, tick, sum, count, below, has}
 use Rattle.rules.specs.Files.{Case, Pair}
 use Rattle.rules.specs.Single.{pairAt}
 use Rattle.rules.specs.Joint.{Cover, covers, choicesIn, choices, whole, weightFrom, weightOf, weight, total}
 use Rattle.sound.specs.Facts.{Sound}
-use Rattle.weights.specs.Tests.{or-true-second}
-use Rattle.weights.specs.Sums.{tick-and, sum-same, sum-times, sum-zero, sum-map, sum-each, sum-places}
-use Rattle.weights.specs.All.{All, all-map, all-each}
-use Rattle.weights.specs.All.All.{none, more}
-use Rattle.weights.specs.Part.{Distinct, Parts, Part, sum-part, part-whole}
+use Rattle.lists.specs.Sums.{tick-and, sum-same, sum-times, sum-zero, sum-map, sum-each, sum-keep, count-any}
+use Rattle.lists.specs.Below.{sum-places, below-once, every-has}
+use Rattle.lists.specs.Every.{Every, every-map, every-each, every-all}
+use Rattle.simulation.specs.Parts.{Part, Parts}
 
 -- the product, from train k on, of the sums of the weights of each set's delays
 abbrev pub product : Case → ℕ → Cover → ℕ
@@ -53,23 +52,27 @@ pub weight-product : (C : Case) (p : Cover) → weight C p ≡ product C 0 p
 unfolding weight weightOf
 weight-product C p = weight-from C 0 p
 
-product-covers : (C : Case) (k : ℕ) (w p : Cover) → Parts w w → Parts w p
+-- a sum over a part is a sum over the set, of the delays that the part has
+sum-part : (f : ℕ → ℕ) (w s : List ℕ) → Part w s → sum f s ≡ sum (λ d. tick (has s d) * f d) w
+sum-part f w s p = ap (sum f) (sym (p .listed)) ∙ sum-keep f (has s) w
+
+product-covers : (C : Case) (k : ℕ) (w p : Cover) → Parts w p
     → product C k p ≡ sum (λ x. tick (covers p x) * weightFrom C k x) (choicesIn w)
 unfolding choicesIn covers
-product-covers C k [] [] d h = refl
-product-covers C k [] (s ∷ p) d h = absurd h
-product-covers C k (u ∷ w) [] d h = absurd h
-product-covers C k (u ∷ w) (s ∷ p) d h =
-    ap₂ _*_ (sum-part (λ i. pairAt C k i .weight) u s (d .0 .distinct) (h .0)) (product-covers C (suc k) w p (d .1) (h .1))
+product-covers C k [] [] h = refl
+product-covers C k [] (s ∷ p) h = absurd h
+product-covers C k (u ∷ w) [] h = absurd h
+product-covers C k (u ∷ w) (s ∷ p) h =
+    ap₂ _*_ (sum-part (λ i. pairAt C k i .weight) u s (h .0)) (product-covers C (suc k) w p (h .1))
     ∙ sym
     (sum-choices (λ x. tick (covers (s ∷ p) x) * weightFrom C k x) (λ x. tick (covers p x) * weightFrom C (suc k) x)
     (λ i. tick (has s i) * pairAt C k i .weight)
     (λ i x. tick-and (has s i) (covers p x) (pairAt C k i .weight) (weightFrom C (suc k) x)) u (choicesIn w))
 
 -- a cover's weight is the sum of the weights of those of all choices that it covers
-pub weight-covers : (C : Case) (p : Cover) → Part C p → weight C p ≡ sum (λ x. tick (covers p x) * weightOf C x) (choices C)
-unfolding Part choices weightOf
-weight-covers C p h = weight-product C p ∙ product-covers C 0 (whole C) p (part-whole C) h
+pub weight-covers : (C : Case) (p : Cover) → Parts (whole C) p → weight C p ≡ sum (λ x. tick (covers p x) * weightOf C x) (choices C)
+unfolding choices weightOf
+weight-covers C p h = weight-product C p ∙ product-covers C 0 (whole C) p h
 
 -- ---- all choices weigh 100^n
 
@@ -104,19 +107,16 @@ weight-all C S =
 
 -- ---- which choices there are
 
-all-has : (s u : List ℕ) → ((d : ℕ) → has s d ≡ true → has u d ≡ true) → All (λ d. has u d ≡ true) s
-all-has [] u h = none
-all-has (a ∷ s) u h = more (h a (ap (λ (b : Bool). b || has s a) (eq-eqb a a refl))) (all-has s u (λ d i. h d (or-true-second (eqb d a) (has s d) i)))
-
 -- a cover covers each of its choices
-pub choices-covered : (p : Cover) → All (λ x. covers p x ≡ true) (choicesIn p)
+pub choices-covered : (p : Cover) → Every (λ x. covers p x ≡ true) (choicesIn p)
 unfolding choicesIn covers
-choices-covered [] = more refl none
+choices-covered [] = (refl, tt)
 choices-covered (s ∷ p) =
-    all-each (λ d. map (λ x. d ∷ x) (choicesIn p)) (λ d i. all-map (λ x. d ∷ x) (λ x c. ap₂ _&&_ i c) (choices-covered p)) (all-has s s (λ d i. i))
+    every-each (λ d. has s d ≡ true) (λ x. covers (s ∷ p) x ≡ true) (λ d. map (λ x. d ∷ x) (choicesIn p))
+    (λ d i. every-map (λ x. covers p x ≡ true) (λ x. covers (s ∷ p) x ≡ true) (λ x. d ∷ x) (λ x c. ap₂ _&&_ i c) (choicesIn p) (choices-covered p)) s (every-has s)
 
 -- each of all choices is covered by the whole
-pub choices-whole : (C : Case) → All (λ x. covers (whole C) x ≡ true) (choices C)
+pub choices-whole : (C : Case) → Every (λ x. covers (whole C) x ≡ true) (choices C)
 unfolding choices
 choices-whole C = choices-covered (whole C)
 
@@ -137,17 +137,12 @@ alike-true (d ∷ x) (e ∷ y) h = go (eqb d e) refl h (alike-true x y)
     go true q r ih = ap₂ (λ (a : ℕ) (l : List ℕ). a ∷ l) (eqb-true d e q) (ih r)
     go false q r ih = absurd (false≢true r)
 
--- a set has a delay once or not at all
-count-set : (d : ℕ) (s : List ℕ) → Distinct s → sum (λ e. tick (eqb d e)) s ≡ tick (has s d)
-count-set d [] h = refl
-count-set d (e ∷ s) h = go (eqb d e) refl (count-set d s (h .1))
-  where
-    go : (b : Bool) → eqb d e ≡ b → sum (λ e. tick (eqb d e)) s ≡ tick (has s d) → tick b + sum (λ e. tick (eqb d e)) s ≡ tick (b || has s d)
-    go true q ih = ap (λ (n : ℕ). 1 + n) (ih ∙ ap tick (ap (has s) (eqb-true d e q) ∙ h .0))
-    go false q ih = omega arith
+-- each delay of each set once at most
+abbrev pub Once : Cover → Type 0
+Once p = Every (λ s. (d : ℕ) → count (eqb d) s ≤ 1) p
 
 -- a choice that the cover covers is among its choices once, and any other never
-pub choices-once : (p : Cover) → Parts p p → (x : List ℕ) → count (alike x) (choicesIn p) ≡ tick (covers p x)
+pub choices-once : (p : Cover) → Once p → (x : List ℕ) → count (alike x) (choicesIn p) ≡ tick (covers p x)
 unfolding choicesIn covers
 choices-once [] h [] = refl
 choices-once [] h (d ∷ x) = refl
@@ -157,14 +152,19 @@ choices-once (s ∷ p) h [] =
     ∙ zero-mul (sum (λ y. 0) (choicesIn p))
 choices-once (s ∷ p) h (d ∷ x) =
     sum-choices (λ y. tick (alike (d ∷ x) y)) (λ y. tick (alike x y)) (λ e. tick (eqb d e)) (λ e y. both (eqb d e) (alike x y)) s (choicesIn p)
-    ∙ ap₂ _*_ (count-set d s (h .0 .distinct)) (choices-once p (h .1) x)
+    ∙ ap₂ _*_ (sym (count-any (eqb d) s (h .0 d))) (choices-once p (h .1) x)
     ∙ sym (both (has s d) (covers p x))
   where
     both : (a b : Bool) → tick (a && b) ≡ tick a * tick b
     both true b = omega arith
     both false b = omega arith
 
+whole-once : (C : Case) → Once (whole C)
+unfolding whole
+whole-once C = every-map (λ pairs. Unit) (λ s. (d : ℕ) → count (eqb d) s ≤ 1) (λ pairs. below (length pairs)) (λ pairs u d. below-once (length pairs) d) (C .tables)
+    (every-all (λ pairs. Unit) (λ pairs. tt) (C .tables))
+
 -- a choice that the whole covers is among all choices once, and any other never
 pub choices-all : (C : Case) (x : List ℕ) → count (alike x) (choices C) ≡ tick (covers (whole C) x)
-unfolding choices Part
-choices-all C x = choices-once (whole C) (part-whole C) x
+unfolding choices
+choices-all C x = choices-once (whole C) (whole-once C) x

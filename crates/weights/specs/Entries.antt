@@ -7,36 +7,29 @@ use Prim.Native.Nat.{ℕ, _+_, _*_}
 use native.Mathlib.Nat.{mul-assoc, mul-comm, mul-add, mul-zero}
 use native.Mathlib.Omega.{arith}
 use lib.Dec.{eqb}
-use Rattle.rules.specs.Lists.{one, each, tick, sum, count}
+use Rattle.rules.specs.Lists.{one, tick, sum, count}
 use Rattle.rules.specs.Files.{Case}
 use Rattle.rules.specs.Turns.{Mark}
 use Rattle.rules.specs.Joint.{Entry, covers, choices, weightOf, weight, weightAt}
-use Rattle.weights.specs.Sums.{sum-append, sum-same, sum-times, sum-plus, sum-zero, sum-keep}
-use Rattle.weights.specs.All.{All}
-use Rattle.weights.specs.All.All.{more}
-use Rattle.weights.specs.Part.{Part}
+use Rattle.lists.specs.Sums.{sum-append, sum-same, sum-times, sum-plus, sum-zero, sum-keep}
+use Rattle.lists.specs.Every.{Every}
+use Rattle.simulation.specs.View.{view}
+use Rattle.simulation.specs.Serving.{Proper}
 use Rattle.weights.specs.Choices.{weight-covers}
-
--- what a choice sees of entries: the marks of those that cover it
-abbrev pub view : List ℕ → List Entry → List Mark
-view x rs = each (λ r. one (covers (r .cover) x) (r .mark)) rs
-
--- each entry's cover has one set per train, a part of the whole
-abbrev pub Covered : Case → List Entry → Type 0
-Covered C rs = All (λ r. Part C (r .cover)) rs
 
 count-one : (test : Mark → Bool) (b : Bool) (m : Mark) (ms : List Mark) → count test (one b m ++ ms) ≡ tick (test m) * tick b + count test ms
 count-one test true m ms = omega arith
 count-one test false m ms = omega arith
 
 -- a sum over the entries that pass a test is a sum over the choices
-pub entries-choices : (C : Case) (test : Mark → Bool) (rs : List Entry) → Covered C rs
+pub entries-choices : (C : Case) (test : Mark → Bool) (rs : List Entry) → Every (Proper C) rs
     → sum (λ r. tick (test (r .mark)) * weight C (r .cover)) rs ≡ sum (λ x. weightOf C x * count test (view x rs)) (choices C)
+unfolding view
 entries-choices C test [] h = sym (sum-same (λ x. weightOf C x * 0) (λ x. 0) (λ x. mul-zero (weightOf C x)) (choices C) ∙ sum-zero (choices C))
-entries-choices C test (r ∷ rs) (more p h) =
+entries-choices C test (r ∷ rs) h =
     ap₂ _+_
-    (ap (λ (z : ℕ). n * z) (weight-covers C (r .cover) p) ∙ sym (sum-times n (λ x. tick (covers (r .cover) x) * weightOf C x) (choices C)))
-    (entries-choices C test rs h)
+    (ap (λ (z : ℕ). n * z) (weight-covers C (r .cover) (h .0)) ∙ sym (sum-times n (λ x. tick (covers (r .cover) x) * weightOf C x) (choices C)))
+    (entries-choices C test rs (h .1))
     ∙ sym (sum-plus (λ x. n * (tick (covers (r .cover) x) * weightOf C x)) (λ x. weightOf C x * count test (view x rs)) (choices C))
     ∙ sum-same _ (λ x. weightOf C x * count test (view x (r ∷ rs))) (λ x. sym (step x)) (choices C)
   where
@@ -51,7 +44,7 @@ entries-choices C test (r ∷ rs) (more p h) =
         (mul-comm (weightOf C x) (n * tick (covers (r .cover) x)) ∙ mul-assoc n (tick (covers (r .cover) x)) (weightOf C x))
 
 -- the weight at a train and a minute, as a sum over the choices
-pub weightAt-choices : (C : Case) (rs : List Entry) (k t : ℕ) → Covered C rs
+pub weightAt-choices : (C : Case) (rs : List Entry) (k t : ℕ) → Every (Proper C) rs
     → weightAt C rs k t ≡ sum (λ x. weightOf C x * count (λ v. eqb (v .train) k && eqb (v .minute) t) (view x rs)) (choices C)
 unfolding weightAt
 weightAt-choices C rs k t h =

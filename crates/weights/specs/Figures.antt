@@ -1,11 +1,10 @@
 -- The figures as sums over choices: on time, late and the lateness are the weights of the choices by the minute in which their single run brings the
--- train in; with the weight not arrived they make up all, and each is bounded. Each is one sum over the window. Assumes the two facts of `Seen`.
+-- train in; with the weight not arrived they make up all. Each is one sum over the window. Takes `Seen` as given, and assumes nothing else.
 use mathlib.Core.Path.{_≡_, refl, sym, ap, ap₂, _∙_}
 use mathlib.Core.Bool.{Bool, true, false}
 use mathlib.Core.List.{List}
 use mathlib.Core.Option.{Option, none, some}
-use Prim.Native.Nat.{ℕ, _+_, _-_, _*_, _≤_}
-use native.Mathlib.Nat.{mul-le-mul-right}
+use Prim.Native.Nat.{ℕ, _+_, _-_, _*_}
 use native.Mathlib.Omega.{arith}
 use lib.Dec.{leb, ltb}
 use borrow.Author.Tests.{leb-true, leb-false, le-ltb, lt-ltb}
@@ -16,9 +15,8 @@ use Rattle.rules.specs.Joint.{Entry, choices, weightOf, total, joint, weightAt}
 use Rattle.rules.specs.Listing.{window, notArrived}
 use Rattle.rules.specs.Figures.{plan, weightIn, onTime, late, latenessSum, latenessWeight}
 use Rattle.sound.specs.Facts.{Sound}
-use Rattle.weights.specs.Sums.{sum-same, sum-most, sum-times, sum-plus, sum-keep}
-use Rattle.weights.specs.Choices.{weight-all}
-use Rattle.weights.specs.Arrivals.{Seen, By, arrival-by, forMinute, window-choices, arrived-total}
+use Rattle.lists.specs.Sums.{sum-same, sum-plus, sum-keep}
+use Rattle.weights.specs.Arrivals.{Seen, forMinute, window-choices, arrived-total}
 
 -- there is a minute, and it passes the test
 abbrev pub passesIn : (ℕ → Bool) → Option ℕ → Bool
@@ -81,21 +79,3 @@ module _ (C : Case) (S : Seen C (C .head .lastMinute)) (k : ℕ) where
     pub figures-total : (L : ℕ) → onTime C arrivals k L + late C arrivals k L + notArrived C arrivals k ≡ total C
     unfolding latenessWeight
     figures-total L = ap (λ (n : ℕ). n + notArrived C arrivals k) (onTime-late L) ∙ arrived-total C S k sound
-
-    -- each arrival is at most 719 late, so the sum of the lateness is at most 719 times all
-    pub latenessSum-most : latenessSum C arrivals k ≤ 719 * total C
-    latenessSum-most =
-        omega (
-          arith,
-          latenessSum-weight,
-          weight-all C sound,
-          sum-times 719 (weightOf C) (choices C),
-          sum-most (λ x. lateness x * weightOf C x) (λ x. 719 * weightOf C x) (λ x. mul-le-mul-right (weightOf C x) (most (arrival C x k) (arrival-by C x k))) (choices C),
-        )
-      where
-        lateness : List ℕ → ℕ
-        lateness x = forMinute (λ t. t - plan C k) (arrival C x k)
-
-        most : (o : Option ℕ) → By (C .head .lastMinute) o → forMinute (λ t. t - plan C k) o ≤ 719
-        most none h = omega arith
-        most (some u) h = omega (arith, sound .in-window)

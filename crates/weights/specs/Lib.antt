@@ -1,14 +1,7 @@
-pub mod Tests
-pub mod Sums
-pub mod All
-pub mod Part
 pub mod Choices
 pub mod Entries
-pub mod Trace
 pub mod Kept
-pub mod Cutting
 pub mod Log
 pub mod Arrivals
 pub mod Figures
-pub mod Longest
 pub mod Room

@@ -12,38 +12,37 @@ use Rattle.rules.specs.Files.{Case}
 use Rattle.rules.specs.Turns.{Place, same, served, State, Row, Turn, Rules, lastStation, entered, arriving, elements, next, serveOne, serveAll, visit, minute, minutes, runFrom}
 use Rattle.rules.specs.Turns.Turn.{nobody, somebody}
 use Rattle.rules.specs.Single.{enters, serveTrain, singleRules, firstMarks, single}
-use Rattle.weights.specs.All.{All, all-append, all-same, all-one}
-use Rattle.weights.specs.All.All.{none}
+use Rattle.lists.specs.Every.{Every, every-append, every-more, every-one}
 
 -- the list v has grown into w by items with the property
 pub record Grown {A : Type 0} (p : A → Type 0) (v w : List A) : Type 0 where
   pub new : List A
   pub grown : w ≡ v ++ new
-  pub kind : All p new
+  pub kind : Every p new
 
 module _ {A : Type 0} {p : A → Type 0} where
   pub grown-not : (v : List A) → Grown p v v
-  grown-not v = record { new = []; grown = sym (append-nil v); kind = none }
+  grown-not v = record { new = []; grown = sym (append-nil v); kind = tt }
 
-  pub grown-by : (v s : List A) → All p s → Grown p v (v ++ s)
+  pub grown-by : (v s : List A) → Every p s → Grown p v (v ++ s)
   grown-by v s h = record { new = s; grown = refl; kind = h }
 
   pub grown-then : {u v w : List A} → Grown p u v → Grown p v w → Grown p u w
   grown-then {u} g h = record {
     new = g .new ++ h .new;
     grown = h .grown ∙ ap (λ (l : List A). l ++ h .new) (g .grown) ∙ append-assoc u (g .new) (h .new);
-    kind = all-append (g .kind) (h .kind);
+    kind = every-append p (g .new) (h .new) (g .kind) (h .kind);
   }
 
-  pub grown-same : {q : A → Type 0} → ((a : A) → p a → q a) → {v w : List A} → Grown p v w → Grown q v w
-  grown-same f g = record { new = g .new; grown = g .grown; kind = all-same f (g .kind) }
+  pub grown-same : (q : A → Type 0) → ((a : A) → p a → q a) → {v w : List A} → Grown p v w → Grown q v w
+  grown-same q f g = record { new = g .new; grown = g .grown; kind = every-more p q f (g .new) (g .kind) }
 
-  pub grown-all : {v w : List A} → Grown p v w → All p v → All p w
-  grown-all g h = subst (All p) (sym (g .grown)) (all-append h (g .kind))
+  pub grown-all : {v w : List A} → Grown p v w → Every p v → Every p w
+  grown-all {v} g h = subst (Every p) (sym (g .grown)) (every-append p v (g .new) h (g .kind))
 
 -- an asker served in minute t logs arrivals of minute t only
 abbrev pub Prompt : {A : Type 0} → Rules A → Type 0
-Prompt {A} R = (t : ℕ) (e : Place) (l : List A) (a : A) → All (λ b. R .mark b .minute ≡ t) (R .serve t e l a .arrived)
+Prompt {A} R = (t : ℕ) (e : Place) (l : List A) (a : A) → Every (λ b. R .mark b .minute ≡ t) (R .serve t e l a .arrived)
 
 module _ {A : Type 0} (C : Case) (R : Rules A) (prompt : Prompt R) where
   -- the arrivals v have grown into w in minute t
@@ -72,11 +71,11 @@ module _ {A : Type 0} (C : Case) (R : Rules A) (prompt : Prompt R) where
   unfolding minute
   minute-logs t s = visits-log t (elements C) _
 
-  minutes-log : (n : ℕ) (s : State A) → s .arrived ≡ [] → All (λ a. R .mark a .minute < n) (minutes C R n s .arrived)
+  minutes-log : (n : ℕ) (s : State A) → s .arrived ≡ [] → Every (λ a. R .mark a .minute < n) (minutes C R n s .arrived)
   unfolding minutes
-  minutes-log zero s h = subst (All (λ a. R .mark a .minute < 0)) (sym h) none
+  minutes-log zero s h = subst (Every (λ a. R .mark a .minute < 0)) (sym h) tt
   minutes-log (suc n) s h =
-      grown-all (grown-same (λ a e. omega arith) (minute-logs n (minutes C R n s))) (all-same (λ a l. omega arith) (minutes-log n s h))
+      grown-all (grown-same _ (λ a e. omega arith) (minute-logs n (minutes C R n s))) (every-more _ _ (λ a l. omega arith) (minutes C R n s .arrived) (minutes-log n s h))
 
   minutes-later : (n m : ℕ) (s : State A) → n ≤ m → Grown (λ a. n ≤ R .mark a .minute) (minutes C R n s .arrived) (minutes C R m s .arrived)
   unfolding minutes
@@ -89,15 +88,15 @@ module _ {A : Type 0} (C : Case) (R : Rules A) (prompt : Prompt R) where
           → Grown (λ a. n ≤ R .mark a .minute) (minutes C R n s .arrived) (minute C R m (minutes C R m s) .arrived)
       go true e ih =
           let le : n ≤ m = leb-true n m e in
-          grown-then (ih le) (grown-same (λ a q. omega arith) (minute-logs m (minutes C R m s)))
+          grown-then (ih le) (grown-same _ (λ a q. omega arith) (minute-logs m (minutes C R m s)))
       go false e ih =
           let eq : n ≡ suc m = omega (arith, leb-false n m e) in
           subst (λ (i : ℕ). Grown (λ a. i ≤ R .mark a .minute) (minutes C R i s .arrived) (minutes C R (suc m) s .arrived)) (sym eq) (grown-not _)
 
   -- what the run after minute m has logged arrived by m
-  pub run-logged : (l : List A) (m : ℕ) → All (λ a. R .mark a .minute ≤ m) (runFrom C R l m .arrived)
+  pub run-logged : (l : List A) (m : ℕ) → Every (λ a. R .mark a .minute ≤ m) (runFrom C R l m .arrived)
   unfolding runFrom
-  run-logged l m = all-same (λ a h. omega arith) (minutes-log (suc m) _ refl)
+  run-logged l m = every-more _ _ (λ a h. omega arith) (minutes C R (suc m) _ .arrived) (minutes-log (suc m) _ refl)
 
   -- what the run logs after minute m arrives after m
   pub run-later : (l : List A) (m n : ℕ) → m ≤ n → Grown (λ a. m < R .mark a .minute) (runFrom C R l m .arrived) (runFrom C R l n .arrived)
@@ -110,12 +109,12 @@ prompt-single : (C : Case) → Prompt (singleRules C)
 unfolding singleRules serveTrain arriving
 prompt-single C t e ms m = go (enters C e ms)
   where
-    go : (b : Bool) → All (λ v. v .minute ≡ t) (cond b (served [] (entered C t e m) (arriving C t e m)) (served (m ∷ []) [] []) .arrived)
-    go true = all-one (same e (lastStation C (m .train))) _ refl
-    go false = none
+    go : (b : Bool) → Every (λ v. v .minute ≡ t) (cond b (served [] (entered C t e m) (arriving C t e m)) (served (m ∷ []) [] []) .arrived)
+    go true = every-one (λ v. v .minute ≡ t) (same e (lastStation C (m .train))) _ (λ q. refl)
+    go false = tt
 
 -- an arrival that the single run has logged after minute m has a minute of at most m
-pub single-logged : (C : Case) (x : List ℕ) (m : ℕ) → All (λ v. v .minute ≤ m) (single C x m .arrived)
+pub single-logged : (C : Case) (x : List ℕ) (m : ℕ) → Every (λ v. v .minute ≤ m) (single C x m .arrived)
 unfolding single singleRules
 single-logged C x m = run-logged C (singleRules C) (prompt-single C) (firstMarks C x) m
 

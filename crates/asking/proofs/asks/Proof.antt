@@ -8,7 +8,7 @@ use Rattle.asking.proofs.asks.Tie as tie
 use Rattle.asking.proofs.asks.Reads as reads
 use Rattle.asking.proofs.asks.Lts as lts
 use Rattle.asking.proofs.due.Reads as due-reads
-use Rattle.rows.proofs.at.Reads as at-reads
+use Rattle.words.proofs.at.Reads as at-reads
 
 returns : tie.Need-returns
 unfolding asksOf

@@ -8,7 +8,7 @@ use Rattle.asking.proofs.assign.Tie as tie
 use Rattle.asking.proofs.assign.Reads as reads
 use Rattle.asking.proofs.assign.Lts as lts
 use Rattle.asking.proofs.capacity.Reads as capacity-reads
-use Rattle.rows.proofs.at.Reads as at-reads
+use Rattle.words.proofs.at.Reads as at-reads
 
 capacity-requires : tie.Need-capacity-requires
 capacity-requires c κs = omega (arith, c .before .pre .0 .place)

@@ -6,7 +6,7 @@ use Rattle.asking.proofs.capacity.Statement.{statement}
 use Rattle.asking.proofs.capacity.Tie as tie
 use Rattle.asking.proofs.capacity.Reads as reads
 use Rattle.asking.proofs.capacity.Lts as lts
-use Rattle.rows.proofs.at.Reads as at-reads
+use Rattle.words.proofs.at.Reads as at-reads
 
 add-at : tie.Need-add-at
 add-at c = search needs

@@ -1,7 +1,7 @@
 -- `asking::meet` meets its contract, by the test of its branch. Assumes nothing.
+use mathlib.Core.Path.{refl}
 use native.Mathlib.Omega.{arith}
 use borrow.Author.Tests.{lt-ltb, le-ltb}
-use Rattle.rows.specs.Written.{put-none}
 use Rattle.asking.specs.Ask.{metFor}
 use borrow.Author.Needs.{needs}
 use Rattle.asking.proofs.meet.Statement.{statement}
@@ -22,7 +22,7 @@ returns c = rw (lt-ltb _ _ (c .before .before .before .before .if1 .taken)) (c .
 
 returns-2 : tie.Need-returns-2
 unfolding metFor
-returns-2 c = rw (le-ltb _ _ (c .if1 .left)) (put-none _ _ (omega arith))
+returns-2 c = rw (le-ltb _ _ (c .if1 .left)) (record { few = omega arith; list = refl })
 
 pub meet-spec : {M : Type 1} → statement M
 meet-spec = tie.close (tie.spec gather-requires same-length returns returns-2)

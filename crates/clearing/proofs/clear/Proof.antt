@@ -6,8 +6,7 @@ use Rattle.clearing.proofs.clear.Statement.{statement}
 use Rattle.clearing.proofs.clear.Tie as tie
 use Rattle.clearing.proofs.clear.Reads as reads
 use Rattle.clearing.proofs.clear.Lts as lts
-use Rattle.clearing.proofs.leaving.Reads as leaving-reads
-use Rattle.rows.proofs.sweep.Reads as sweep-reads
+use Rattle.clearing.proofs.sweep.Reads as sweep-reads
 
 add-if1 : tie.Need-add-if1
 add-if1 c = search needs
@@ -19,10 +18,10 @@ slice-read-if1 : tie.Need-slice-read-if1
 slice-read-if1 c = search needs
 
 returns : tie.Need-returns
-returns c = clear-still (c .before .before .before .before .before .args .tables .now) (c .before .before .before .before .before .args .t) (c .before .before .before .before .before .args .w) (c .before .before .before .before .before .args .rows .now) (c .before .before .before .before .before .args .notes .now) (c .before .before .before .before .before .pre .0) (c .before .before .before .before .before .pre .1) (c .before .before .before .before .before .pre .3) (c .if1 .taken)
-
-leaving-requires : tie.Need-leaving-requires
-leaving-requires c κs = search needs
+returns c =
+    let s = c .before .before .before .before .before .args in
+    let p = c .before .before .before .before .before .pre in
+    clear-still (s .tables .now) (s .t) (s .w) (s .rows .now) (s .notes .now) (p .0) (p .1) (p .3) (c .if1 .taken)
 
 sweep-requires : tie.Need-sweep-requires
 sweep-requires c κs = search needs
@@ -37,7 +36,10 @@ same-length-2 : tie.Need-same-length-2
 same-length-2 c = search needs
 
 returns-2 : tie.Need-returns-2
-returns-2 c = clear-done (c .before .before .before .before .before .before .before .before .before .before .before .before .before .before .args .tables .now) (c .before .before .before .before .before .before .before .before .before .before .before .before .before .before .args .t) (c .before .before .before .before .before .before .before .before .before .before .before .before .before .before .args .w) (c .before .before .before .before .before .before .before .before .before .before .before .before .before .before .args .rows .now) (c .before .before .before .before .before .before .before .before .before .before .before .before .before .before .args .notes .now) (c .before .before .before .before .before .before .before .before .before .before .before .before .before .before .pre .0) (c .before .before .before .before .before .before .before .before .before .before .before .before .before .before .pre .1) (c .before .before .before .before .before .before .before .before .before .before .before .before .before .before .pre .3) (c .before .before .sweep .result) _ _ (omega (arith, c .before .rows)) (c .before .before .before .before .before .before .leaving .ensures) (c .before .before .sweep .ensures .0) (c .before .before .sweep .ensures .1)
+returns-2 c =
+    let s = c .before .before .before .before .before .before .before .before .before .before .before .before .args in
+    let p = c .before .before .before .before .before .before .before .before .before .before .before .before .pre in
+    clear-done (s .tables .now) (s .t) (s .w) (s .rows .now) (s .notes .now) (p .0) (p .1) (p .3) (c .before .before .before .before .sweep .result) _ _ (omega (arith, c .before .before .before .rows)) (c .before .before .before .before .sweep .ensures .2) (c .before .before .before .before .sweep .ensures .0) (c .before .before .before .before .sweep .ensures .1)
 
 pub clear-spec : {M : Type 1} → statement M
 clear-spec =
@@ -47,7 +49,6 @@ clear-spec =
     mul-if1
     slice-read-if1
     returns
-    leaving-requires
     sweep-requires
     mul-result
     same-length

@@ -27,7 +27,7 @@ slice-aggregate-run-on : tie.Need-slice-aggregate-run-on
 slice-aggregate-run-on c = let s = c .before .before .before .before .before .before .before .before .before .before .before .before .before in let looked = c .before .before .before .before .before .before .fill .ensures (s .pre .0 .of) (s .pre .0 .accepted) (s .pre .0 .sizes) in let few = room-few (s .args .case .now) (s .args .book .now) (s .args .stop) (s .pre .0) _ looked in sym (length-take-le _ _ (omega (arith, c .before .before .at .ensures, s .pre .1 .1)))
 
 run-on-requires : tie.Need-run-on-requires
-run-on-requires c κs = let s = c .before .before .before .before .before .before .before .before .before .before .before .before .before .before in let looked = c .before .before .before .before .before .before .before .fill .ensures (s .pre .0 .of) (s .pre .0 .accepted) (s .pre .0 .sizes) in let few = room-few (s .args .case .now) (s .args .book .now) (s .args .stop) (s .pre .0) _ looked in let n = length-take-le (c .before .before .before .at .result * 2 + 2) (s .args .list .now) (omega (arith, c .before .before .before .at .ensures, s .pre .1 .1)) in (omega (arith, n, c .before .before .before .at .ensures), omega (arith, n, c .before .before .before .at .ensures), stop-few (s .args .case .now) (s .args .book .now) (s .args .stop) (s .pre .0) _ looked, small-tables (s .args .case .now) (s .args .book .now) (s .args .stop) (s .pre .0) _ looked (λ i. omega (arith, c .before .before .before .before .before .before .before .before .before .before .before .before .before .shared-slice-known .given i)) (λ i. omega (arith, c .before .before .before .before .before .before .before .before .before .before .before .before .shared-slice-known2 .given i)), ways-tables (s .args .case .now) (s .args .book .now) (s .args .stop) (s .pre .0) _ looked)
+run-on-requires c κs = let s = c .before .before .before .before .before .before .before .before .before .before .before .before .before .before in let looked = c .before .before .before .before .before .before .before .fill .ensures (s .pre .0 .of) (s .pre .0 .accepted) (s .pre .0 .sizes) in let few = room-few (s .args .case .now) (s .args .book .now) (s .args .stop) (s .pre .0) _ looked in let n = length-take-le (c .before .before .before .at .result * 2 + 2) (s .args .list .now) (omega (arith, c .before .before .before .at .ensures, s .pre .1 .1)) in (omega (arith, n, c .before .before .before .at .ensures), omega (arith, n, c .before .before .before .at .ensures), stop-few (s .args .case .now) (s .args .book .now) (s .args .stop) (s .pre .0) _ looked, small-tables (s .args .case .now) (s .args .book .now) (s .args .stop) (s .pre .0) _ looked (λ i. omega (arith, c .before .before .before .before .before .before .before .before .before .before .before .before .before .shared-slice-known .given i)) (λ i. omega (arith, c .before .before .before .before .before .before .before .before .before .before .before .before .shared-slice-known2 .given i)), ways-tables (s .args .case .now) (s .args .book .now) (s .args .stop) (s .pre .0) _ looked, s .pre .1 .3)
 
 same-length : tie.Need-same-length
 same-length c = search needs

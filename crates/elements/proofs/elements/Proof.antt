@@ -5,7 +5,7 @@ use native.Mathlib.Omega.{arith}
 use lib.ListN.{length, getD}
 use Rattle.visiting.specs.Visit.{read, Seen}
 use Rattle.elements.specs.Elements.{elementOf, elementsOf}
-use Rattle.visiting.specs.Visiting.{unseen}
+use Rattle.visiting.specs.Unmoved.{unseen}
 use Rattle.elements.specs.Turning.{elements-none, elements-more, lent-same}
 use borrow.Author.Needs.{needs}
 use Rattle.elements.proofs.elements.Statement.{statement}

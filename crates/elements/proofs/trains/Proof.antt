@@ -6,14 +6,14 @@ use lib.ListN.{length, getD}
 use Rattle.asking.specs.Ask.{Within}
 use Rattle.visiting.specs.Visit.{passOf, read, Seen}
 use Rattle.elements.specs.Elements.{elementOf}
-use Rattle.visiting.specs.Visiting.{unseen}
+use Rattle.visiting.specs.Unmoved.{unseen}
 use Rattle.elements.specs.Turning.{element-none, element-more, lent-same}
 use borrow.Author.Needs.{needs}
 use Rattle.elements.proofs.trains.Statement.{statement}
 use Rattle.elements.proofs.trains.Tie as tie
 use Rattle.elements.proofs.trains.Reads as reads
 use Rattle.elements.proofs.trains.Lts as lts
-use Rattle.rows.proofs.at.Reads as at-reads
+use Rattle.words.proofs.at.Reads as at-reads
 use Rattle.visiting.proofs.visit.Reads as visit-reads
 
 abbrev Inv-loop : tie.InvT-loop

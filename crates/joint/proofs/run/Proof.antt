@@ -1,11 +1,11 @@
--- `joint::run` meets its contract: cleared weights and notes, the first list, and the minutes. Assumes nothing.
+-- `joint::run` meets its contract: the first list, its minutes shown, and the minutes. Assumes nothing.
 use mathlib.Core.Path.{refl, ap, _∙_}
-use Prim.Native.Nat.{_+_}
+use Prim.Native.Nat.{ℕ, _+_}
 use native.Mathlib.Omega.{arith}
-use lib.ListN.{getD, replicate}
+use lib.ListN.{length, getD, length-replicate}
 use Rattle.rows.specs.Written.{put-length, put-fits}
 use Rattle.opening.specs.First.{firstRows}
-use Rattle.visiting.specs.Visit.{Outcome, guard}
+use Rattle.visiting.specs.Visit.{guard}
 use Rattle.entries.specs.Run.{minutesOf}
 use Rattle.elements.specs.Turning.{lent-same}
 use Rattle.joint.specs.Opened.{begin-kept, begin-outcome, begin-due, cleared-flagged}
@@ -18,26 +18,19 @@ use Rattle.joint.proofs.run.Lts as lts
 use Rattle.clearing.proofs.enrol.Reads as enrol-reads
 use Rattle.joint.proofs.minutes.Reads as minutes-reads
 use Rattle.opening.proofs.begin.Reads as begin-reads
-use Rattle.opening.proofs.clear.Reads as clear-reads
-
-clear-requires : tie.Need-clear-requires
-clear-requires c κs = search needs
-
-clear-requires-2 : tie.Need-clear-requires-2
-clear-requires-2 c κs = search needs
 
 begin-requires : tie.Need-begin-requires
 begin-requires c κs = search needs
 
 enrol-requires : tie.Need-enrol-requires
-enrol-requires c κs = (omega (arith, put-fits (c .before .before .before .before .begin .ensures)), cleared-flagged (c .before .before .before .before .before .before .before .before .clear2 .last .0) (omega (arith, c .before .before .before .before .before .before .before .notes, c .before .before .before .before .before .before .before .before .before .before .before .before .before .before .before .before .before .before .before .before .before .before .pre .1 .3)) (c .before .before .before .before .before .before .before .before .clear2 .ensures ∙ ap (λ n. replicate n 0) (c .before .before .before .before .before .before .before .before .before .before .before .before .before .before .before .before .before .before .before .before .before .before .pre .1 .3)))
+enrol-requires c κs = let none = c .before .before .before .before .before .before .before .before .before .before .before .before .before .before .pre .1 .1 .0 in (omega (arith, put-fits (c .before .before .before .before .begin .ensures)), cleared-flagged (c .before .before .before .before .before .before .before .before .before .before .before .before .before .before .args .notes .now) (ap length none ∙ length-replicate {A = ℕ} 6272 0) none)
 
 minutes-requires : tie.Need-minutes-requires
 minutes-requires c κs =
-    let s = c .before .before .before .before .before .before .before .before .before .before .before .before .before .before .before .before .before .before .before .before .before .before .before .before .before .before .before .before .before .before .before .before .args in
-    let p = c .before .before .before .before .before .before .before .before .before .before .before .before .before .before .before .before .before .before .before .before .before .before .before .before .before .before .before .before .before .before .before .before .pre in
-    let k = begin-kept (c .before .before .before .before .before .before .before .before .before .before .before .before .before .before .before .before .before .before .before .before .before .before .before .before .before .before .before .before .before .before .before .before .args .tables .now) (c .before .before .before .before .before .before .before .before .before .before .before .before .before .before .begin .last .1 .0) (c .before .before .before .before .before .before .before .before .before .before .before .before .before .before .before .before .before .before .before .before .before .before .before .before .before .before .before .before .before .before .before .before .args .weights .now) (c .before .before .before .before .before .before .before .before .before .before .before .before .before .before .before .before .before .before .before .before .before .before .before .before .before .before .before .before .before .before .before .before .pre .0 .rows-are) (c .before .before .before .before .before .before .before .before .before .before .before .before .before .before .begin .ensures) in
-    (lent-same _ _ _ _ _ (p .0) (put-length (c .before .before .before .before .before .before .before .before .before .before .before .before .before .before .begin .ensures)) refl refl refl refl, ((p .1 .0, p .1 .1, p .1 .2), (k, c .before .before .before .before .before .before .before .before .before .enrol .ensures .flagged, begin-due (s .tables .now) (p .1 .1) (p .1 .2) (c .before .before .before .before .before .before .before .before .before .before .before .before .before .before .begin .last .1 .0) _ (c .before .before .before .before .before .before .before .before .before .before .before .before .before .before .begin .ensures) k (c .before .before .before .before .before .before .before .before .before .enrol .ensures))))
+    let s = c .before .before .before .before .before .before .before .before .before .before .before .before .before .before .before .before .before .before .before .before .before .before .before .before .args in
+    let p = c .before .before .before .before .before .before .before .before .before .before .before .before .before .before .before .before .before .before .before .before .before .before .before .before .pre in
+    let k = begin-kept (s .tables .now) (c .before .before .before .before .before .before .before .before .before .before .before .before .before .before .begin .last .1 .0) (s .weights .now) (p .0 .rows-are) (c .before .before .before .before .before .before .before .before .before .before .before .before .before .before .begin .ensures) in
+    (lent-same _ _ _ _ _ (p .0) (put-length (c .before .before .before .before .before .before .before .before .before .before .before .before .before .before .begin .ensures)) refl refl refl refl, ((p .1 .0 .0, p .1 .0 .1, p .1 .0 .2), (k, c .before .before .before .before .before .before .before .before .before .enrol .ensures .flagged, begin-due (s .tables .now) (p .1 .0 .1) (p .1 .0 .2) (c .before .before .before .before .before .before .before .before .before .before .before .before .before .before .begin .last .1 .0) _ (c .before .before .before .before .before .before .before .before .before .before .before .before .before .before .begin .ensures) k (c .before .before .before .before .before .before .before .before .before .enrol .ensures))))
 
 same-length : tie.Need-same-length
 same-length c = search needs
@@ -62,11 +55,11 @@ same-length-7 c = search needs
 
 returns : tie.Need-returns
 returns c =
-    let s = c .before .before .before .before .before .before .before .before .before .before .before .before .before .before .before .before .before .before .before .before .before .before .before .before .before .before .before .before .before .before .before .before .before .before .before .before .before .before .before .before .before .before .before .before .before .before .before .args in
-    let p = c .before .before .before .before .before .before .before .before .before .before .before .before .before .before .before .before .before .before .before .before .before .before .before .before .before .before .before .before .before .before .before .before .before .before .before .before .before .before .before .before .before .before .before .before .before .before .before .pre in
+    let s = c .before .before .before .before .before .before .before .before .before .before .before .before .before .before .before .before .before .before .before .before .before .before .before .before .before .before .before .before .before .before .before .before .before .before .before .before .before .before .before .args in
+    let p = c .before .before .before .before .before .before .before .before .before .before .before .before .before .before .before .before .before .before .before .before .before .before .before .before .before .before .before .before .before .before .before .before .before .before .before .before .before .before .before .pre in
     let T = s .tables .now in
     ran-answers (record {
-      outcome = c .before .before .before .before .before .before .before .before .before .before .before .before .before .before .minutes .ensures .0 ∙ ap (minutesOf T (s .stop + 1)) (begin-outcome T (c .before .before .before .before .before .before .before .before .before .before .before .before .before .before .before .before .before .before .before .before .before .before .before .before .before .before .before .before .before .begin .last .1 .0) (c .before .before .before .before .before .before .before .before .before .before .before .before .before .before .before .before .before .before .before .before .before .before .before .before .before .before .before .before .before .before .before .before .before .before .before .before .before .clear .last .0) (p .0 .rows-are) (c .before .before .before .before .before .before .before .before .before .before .before .before .before .before .before .before .before .before .before .before .before .before .before .before .before .before .before .before .before .begin .ensures) ∙ ap (guard (getD T 3 0) (firstRows T)) (c .before .before .before .before .before .before .before .before .before .before .before .before .before .before .before .before .before .before .before .before .before .before .before .before .before .before .before .before .before .before .before .before .before .before .before .before .before .clear .ensures));
+      outcome = c .before .before .before .before .before .before .before .before .before .before .before .before .before .before .minutes .ensures .0 ∙ ap (minutesOf T (s .stop + 1)) (begin-outcome T (c .before .before .before .before .before .before .before .before .before .before .before .before .before .before .before .before .before .before .before .before .before .before .before .before .before .before .before .before .before .begin .last .1 .0) (s .weights .now) (p .0 .rows-are) (c .before .before .before .before .before .before .before .before .before .before .before .before .before .before .before .before .before .before .before .before .before .before .before .before .before .before .before .before .before .begin .ensures) ∙ ap (guard (getD T 3 0) (firstRows T)) (p .1 .1 .1));
       kept = c .before .before .before .before .before .before .before .before .before .before .before .before .before .before .minutes .ensures .1;
     })
 
@@ -74,8 +67,6 @@ pub run-spec : {M : Type 1} → statement M
 run-spec =
     tie.close
     (tie.spec
-    clear-requires
-    clear-requires-2
     begin-requires
     enrol-requires
     minutes-requires

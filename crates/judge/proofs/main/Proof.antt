@@ -1,5 +1,4 @@
 -- `judge::main` ends: its turns fall. Assumes nothing.
-use Prim.Native.Nat.{ℕ}
 use native.Mathlib.Omega.{arith}
 use borrow.Author.Needs.{needs}
 use Rattle.judge.proofs.main.Statement.{statement}

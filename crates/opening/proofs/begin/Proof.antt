@@ -13,7 +13,7 @@ use Rattle.opening.proofs.begin.Tie as tie
 use Rattle.opening.proofs.begin.Reads as reads
 use Rattle.opening.proofs.begin.Lts as lts
 use Rattle.opening.proofs.first_train.Reads as first-train-reads
-use Rattle.rows.proofs.at.Reads as at-reads
+use Rattle.words.proofs.at.Reads as at-reads
 
 abbrev Inv-loop : tie.InvT-loop
 Inv-loop tables rows₀ n k₀ at₀ rows k at = (n ≡ getD tables 0 0) × (k ≤ n) × Put rows₀ 0 (words (firstTrains tables k)) at rows

@@ -11,7 +11,7 @@ use Rattle.opening.proofs.first_byte.Statement.{statement}
 use Rattle.opening.proofs.first_byte.Tie as tie
 use Rattle.opening.proofs.first_byte.Reads as reads
 use Rattle.opening.proofs.first_byte.Lts as lts
-use Rattle.rows.proofs.at.Reads as at-reads
+use Rattle.words.proofs.at.Reads as at-reads
 
 shl-result : tie.Need-shl-result
 shl-result c = search needs

@@ -16,7 +16,7 @@ use Rattle.opening.proofs.first_train.Reads as reads
 use Rattle.opening.proofs.first_train.Lts as lts
 use Rattle.opening.proofs.first_cover.Reads as first-cover-reads
 use Rattle.rows.proofs.append.Reads as append-reads
-use Rattle.rows.proofs.at.Reads as at-reads
+use Rattle.words.proofs.at.Reads as at-reads
 
 abbrev Inv-loop : tie.InvT-loop
 Inv-loop tables k rows₀ w n arrival d₀ at₀ rows d at = (n ≡ getD tables (40 + k) 0) × (arrival ≡ getD tables (32 + k) 0) × (d ≤ n) × Put rows₀ w (words (map (firstRow tables k) (below d))) at rows

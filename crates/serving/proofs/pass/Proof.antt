@@ -2,7 +2,7 @@
 use mathlib.Core.Path.{sym}
 use native.Mathlib.Omega.{arith}
 use lib.Seq.{length-take-le}
-use Rattle.rows.specs.Written.{put-fits}
+use Rattle.asking.specs.Ask.{stirsOf}
 use Rattle.serving.specs.Outputs.{two-bounds}
 use Rattle.serving.specs.Passing.{pass-law, pass-went}
 use borrow.Author.Needs.{needs}
@@ -11,9 +11,9 @@ use Rattle.serving.proofs.pass.Tie as tie
 use Rattle.serving.proofs.pass.Reads as reads
 use Rattle.serving.proofs.pass.Lts as lts
 use Rattle.asking.proofs.meet.Reads as meet-reads
-use Rattle.serving.proofs.walk.Reads as walk-reads
 use Rattle.rows.proofs.copy.Reads as copy-reads
 use Rattle.rows.proofs.enter.Reads as enter-reads
+use Rattle.serving.proofs.walk.Reads as walk-reads
 
 meet-requires : tie.Need-meet-requires
 meet-requires c κs = search needs
@@ -34,7 +34,7 @@ slice-reshare-prefix-walk : tie.Need-slice-reshare-prefix-walk
 slice-reshare-prefix-walk c = search needs
 
 slice-aggregate-walk : tie.Need-slice-aggregate-walk
-slice-aggregate-walk c = sym (length-take-le (c .before .before .before .before .before .before .before .before .before .meet .result) (c .before .before .before .before .before .before .before .before .before .meet .last .1 .1 .1 .0) (put-fits (c .before .before .before .before .before .before .before .before .before .meet .ensures)))
+slice-aggregate-walk c = sym (length-take-le (c .before .before .before .before .before .before .before .before .before .meet .result) (c .before .before .before .before .before .before .before .before .before .meet .last .1 .1 .1 .0) (c .before .before .before .before .before .before .before .before .before .meet .ensures .few))
 
 walk-requires : tie.Need-walk-requires
 walk-requires c κs = search needs
@@ -42,7 +42,7 @@ walk-requires c κs = search needs
 enter-requires : tie.Need-enter-requires
 enter-requires c κs =
     let b = two-bounds (c .before .before .before .before .before .before .before .before .walk .ensures .0) in
-    let l = c .before .before .before .before .before .before .before .before .before .before .before .before .before .before .before .before .before .before .before .before .before .before .before .before .before .before .before .before .before .before .pre .0 in
+    let l = c .before .before .before .before .before .before .before .before .before .before .before .before .before .before .before .before .before .before .before .before .before .before .before .before .before .before .before .before .before .pre .0 in
     (omega (arith, b .few, b .entering-length, l .entering-long), b .place)
 
 same-length : tie.Need-same-length
@@ -62,9 +62,12 @@ same-length-5 c = search needs
 
 returns : tie.Need-returns
 returns c =
-    let s = c .before .before .before .before .before .before .before .before .before .before .before .before .before .before .before .before .before .before .before .before .before .before .before .before .before .before .before .before .before .before .before .before .before .args in
-    let p = c .before .before .before .before .before .before .before .before .before .before .before .before .before .before .before .before .before .before .before .before .before .before .before .before .before .before .before .before .before .before .before .before .before .pre in
-    (pass-law (s .tables .now) (s .q) (s .u) (s .n) (s .i) (s .rows .now) (p .0) (p .1 .0) (p .1 .1) (p .1 .2) {z = c .before .before .before .before .before .before .before .before .before .before .before .walk .result} (c .before .before .before .before .before .before .before .before .before .before .before .before .before .before .before .before .before .before .before .before .before .before .before .before .meet .ensures) (c .before .before .before .before .before .before .before .before .before .before .before .before .before .before .before .before .before .before .before .copy .ensures) (c .before .before .before .before .before .before .before .before .before .before .before .walk .ensures .0) (c .before .before .enter .ensures), pass-went (s .tables .now) (s .q) (s .u) (s .n) (s .i) (s .rows .now) (p .0) (p .1 .0) (p .1 .1) (p .1 .2) (c .before .before .before .before .before .before .before .before .before .before .before .walk .result .moved) (c .before .before .before .before .before .before .before .before .before .before .before .before .before .before .before .before .before .before .before .before .before .before .before .before .meet .ensures) (c .before .before .before .before .before .before .before .before .before .before .before .before .before .before .before .before .before .before .before .copy .ensures) (c .before .before .before .before .before .before .before .before .before .before .before .walk .ensures .1))
+    let s = c .before .before .before .before .before .before .before .before .before .before .before .before .before .before .before .before .before .before .before .before .before .before .before .before .before .before .before .before .before .before .before .before .args in
+    let p = c .before .before .before .before .before .before .before .before .before .before .before .before .before .before .before .before .before .before .before .before .before .before .before .before .before .before .before .before .before .before .before .before .pre in
+    let test = stirsOf (s .key) (s .q .minute) (s .u) in (
+      pass-law test (s .q) (s .n) (s .i) (s .rows .now) (p .0) (p .1 .0) (p .1 .1) (p .1 .4) {z = c .before .before .before .before .before .before .before .before .before .before .before .walk .result} (c .before .before .before .before .before .before .before .before .before .before .before .before .before .before .before .before .before .before .before .before .before .before .before .before .meet .ensures) (c .before .before .before .before .before .before .before .before .before .before .before .before .before .before .before .before .before .before .before .copy .ensures) (c .before .before .before .before .before .before .before .before .before .before .before .walk .ensures .0) (c .before .before .enter .ensures),
+      pass-went test (s .q) (s .n) (s .i) (s .rows .now) (p .0) (p .1 .0) (p .1 .1) (p .1 .4) (c .before .before .before .before .before .before .before .before .before .before .before .walk .result .moved) (c .before .before .before .before .before .before .before .before .before .before .before .before .before .before .before .before .before .before .before .before .before .before .before .before .meet .ensures) (c .before .before .before .before .before .before .before .before .before .before .before .before .before .before .before .before .before .before .before .copy .ensures) (c .before .before .before .before .before .before .before .before .before .before .before .walk .ensures .1),
+    )
 
 pub pass-spec : {M : Type 1} → statement M
 pass-spec =

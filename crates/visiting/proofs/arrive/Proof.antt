@@ -7,7 +7,7 @@ use Rattle.visiting.proofs.arrive.Statement.{statement}
 use Rattle.visiting.proofs.arrive.Tie as tie
 use Rattle.visiting.proofs.arrive.Reads as reads
 use Rattle.visiting.proofs.arrive.Lts as lts
-use Rattle.rows.proofs.at.Reads as at-reads
+use Rattle.words.proofs.at.Reads as at-reads
 use Rattle.weigh.proofs.brought.Reads as brought-reads
 use Rattle.weigh.proofs.raise.Reads as raise-reads
 

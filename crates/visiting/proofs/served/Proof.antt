@@ -1,16 +1,17 @@
 -- `visiting::served` meets its contract, by `served-law` from what its four calls ensure. Assumes nothing.
-use mathlib.Core.Path.{sym, ap, _∙_}
+use mathlib.Core.Path.{_≡_, sym, ap, _∙_}
 use Prim.Native.Nat.{_+_, _*_, _/_, _%_}
 use native.Mathlib.Omega.{arith}
 use lib.ListN.{getD}
-use Rattle.asking.specs.Ask.{jobOf}
+use Rattle.asking.specs.Ask.{asksOf, reachOf, jobOf}
 use Rattle.rows.specs.Rows.{rowsIn}
 use Rattle.rows.specs.Written.{row-of}
+use Rattle.serving.specs.Passing.{lent-space}
 use Rattle.waiting.specs.Calm.{Settled}
 use Rattle.waiting.specs.Notes.{stirIn, askedIn}
 use Rattle.waiting.specs.Telling.{stir-is}
 use Rattle.visiting.specs.Settling.{job-stands}
-use Rattle.visiting.specs.Visiting.{served-law, asker-is, asked-is}
+use Rattle.visiting.specs.Visiting.{served-law, asked-is}
 use borrow.Author.Needs.{needs}
 use Rattle.visiting.proofs.served.Statement.{statement}
 use Rattle.visiting.proofs.served.Tie as tie
@@ -35,7 +36,7 @@ assign-requires c κs = search needs
 
 pass-requires : tie.Need-pass-requires
 unfolding jobOf
-pass-requires c κs = (c .before .before .before .before .before .before .before .before .before .before .before .before .before .before .before .pre .0, (c .before .before .before .before .before .before .before .before .before .before .before .before .before .before .before .pre .1 .1 .0 .1, omega (arith, c .before .before .before .before .before .before .before .before .before .before .before .before .before .before .before .pre .1 .1 .0 .0), rw (c .before .before .before .before .before .assign .ensures) (c .before .before .before .before .before .before .before .before .before .before .before .before .before .before .before .pre .1 .1 .0 .2)))
+pass-requires c κs = let p = c .before .before .before .before .before .before .before .before .before .before .before .before .before .before .before .pre in (lent-space (p .0), (p .1 .1 .0 .1, omega (arith, p .1 .1 .0 .0), p .1 .1 .1 .2 .low, rw (c .before .before .before .before .before .assign .ensures) (omega (arith, p .1 .0 .0 .minute)), rw (c .before .before .before .before .before .assign .ensures) (p .1 .1 .0 .2)))
 
 arrive-requires : tie.Need-arrive-requires
 unfolding jobOf
@@ -43,7 +44,11 @@ arrive-requires c κs = (c .before .before .before .before .before .before .befo
 
 settle-requires : tie.Need-settle-requires
 unfolding jobOf
-settle-requires c κs = rw (c .before .before .before .before .before .before .before .before .before .before .before .before .before .before .before .before .before .before .before .before .before .before .assign .ensures) (c .before .before .before .before .before .before .before .before .before .before .before .before .before .before .before .before .before .before .before .before .before .before .before .before .before .before .before .before .before .before .before .before .pre .1 .1 .1 .0, c .before .before .before .before .before .before .before .before .before .before .before .before .before .before .before .before .before .before .before .before .before .before .before .before .before .before .before .before .before .before .before .before .pre .1 .0 .2, c .before .before .before .before .before .before .before .before .before .before .before .before .before .before .before .before .before .before .before .before .before .before .before .before .before .before .before .before .before .before .before .before .pre .1 .0 .0 .train, omega (arith, c .before .before .before .before .before .before .before .before .before .before .before .before .before .before .before .before .before .before .before .before .before .before .before .before .before .before .before .before .before .before .before .before .pre .1 .0 .0 .place), omega arith, omega (arith, job-stands (c .before .before .before .before .before .before .before .before .before .before .before .before .before .before .before .before .before .before .before .before .before .before .before .before .before .before .before .before .before .before .before .before .args .tables .now) (c .before .before .before .before .before .before .before .before .before .before .before .before .before .before .before .before .before .before .before .before .before .before .before .before .before .before .before .before .before .before .before .before .args .t) (c .before .before .before .before .before .before .before .before .before .before .before .before .before .before .before .before .before .before .before .before .before .before .before .before .before .before .before .before .before .before .before .before .args .e) (c .before .before .before .before .before .before .before .before .before .before .before .before .before .before .before .before .before .before .before .before .before .before .before .before .before .before .before .before .before .before .before .before .args .k) (getD (c .before .before .before .before .before .before .before .before .before .before .before .before .before .before .before .before .before .before .before .before .before .before .before .before .before .before .before .before .before .before .before .before .args .rows .now) (c .before .before .before .before .before .before .before .before .before .before .before .before .before .before .before .before .before .before .before .before .before .before .before .before .before .before .before .before .before .before .before .before .args .i * 2) 0) (c .before .before .before .before .before .before .before .before .before .before .before .before .before .before .before .before .before .before .before .before .before .before .before .before .before .before .before .before .before .before .before .before .pre .1 .0 .0) (c .before .before .before .before .before .before .before .before .before .before .before .before .before .before .before .before .before .before .before .before .before .before .before .before .before .before .before .before .before .before .before .before .pre .1 .0 .1) (c .before .before .before .before .before .before .before .before .before .before .before .before .before .before .before .before .before .before .before .before .before .before .before .before .before .before .before .before .before .before .before .before .pre .1 .0 .2), c .before .before .before .before .before .before .before .before .before .before .before .before .before .before .before .before .before .before .before .before .before .before .before .before .before .before .before .before .before .before .before .before .pre .1 .0 .0 .train))
+settle-requires c κs =
+    let s = c .before .before .before .before .before .before .before .before .before .before .before .before .before .before .before .before .before .before .before .before .before .before .before .before .before .before .before .before .before .before .before .before .args in
+    let p = c .before .before .before .before .before .before .before .before .before .before .before .before .before .before .before .before .before .before .before .before .before .before .before .before .before .before .before .before .before .before .before .before .pre in
+    rw (c .before .before .before .before .before .before .before .before .before .before .before .before .before .before .before .before .before .before .before .before .before .before .assign .ensures)
+    (p .1 .1 .1 .0, p .1 .0 .2, p .1 .0 .0 .train, omega (arith, p .1 .0 .0 .place), omega arith, omega (arith, job-stands (s .tables .now) (s .t) (s .e) (s .k) (getD (s .rows .now) (s .i * 2) 0) (p .1 .0 .0) (p .1 .0 .1) (p .1 .0 .2), p .1 .0 .0 .train))
 
 same-length : tie.Need-same-length
 same-length c = search needs
@@ -67,17 +72,22 @@ same-length-7 : tie.Need-same-length-7
 same-length-7 c = search needs
 
 returns : tie.Need-returns
+unfolding jobOf
 returns c =
     let s = c .before .before .before .before .before .before .before .before .before .before .before .before .before .before .before .before .before .before .before .before .before .before .before .before .before .before .before .before .before .before .before .before .before .before .before .args in
     let p = c .before .before .before .before .before .before .before .before .before .before .before .before .before .before .before .before .before .before .before .before .before .before .before .before .before .before .before .before .before .before .before .before .before .before .before .pre in
     let T = s .tables .now in
     let x = getD (s .rows .now) (s .i * 2) 0 in
-    let asker = asker-is T (s .t) (s .e) (s .k) (s .i) (s .n) (s .rows .now) (p .1 .1 .0 .0) (omega (arith, p .1 .1 .0 .1)) (p .1 .1 .0 .2) (p .1 .1 .0 .3) in
-    let asked = asked-is T (s .t) (s .e) (s .k) (s .i) (s .n) (s .rows .now) (p .1 .1 .0 .0) (omega (arith, p .1 .1 .0 .1)) (p .1 .1 .0 .2) (p .1 .1 .0 .3) in
-    let u = p .1 .1 .1 .2 ∙ sym (stir-is (s .notes .now) (s .k * 128 + s .e) (omega (arith, p .1 .0 .0 .place, p .1 .0 .0 .train))) in
-    let near = row-of (Settled T (s .t + 1) (stirIn (s .notes .now)) (askedIn (s .notes .now)) (rowsIn (s .n) (s .rows .now))) (s .i) (s .n) (s .rows .now) (p .1 .1 .0 .0) (omega (arith, p .1 .1 .0 .1)) (p .1 .1 .1 .1 .calm) .place in
+    let less = p .1 .1 .0 .0 in
+    let long = p .1 .1 .0 .1 in
+    let keyed = p .1 .1 .1 .2 in
+    let reach = p .1 .1 .0 .3 in
+    let asks = row-of (λ r. asksOf T (s .t) (s .e) (s .k) (r .state) ≡ reachOf (s .key) (s .t) (r .state)) (s .i) (s .n) (s .rows .now) less (omega (arith, long)) (keyed .asks) ∙ reach in
+    let asked = asked-is T (s .t) (s .e) (s .k) (s .i) (s .n) (s .rows .now) less (omega (arith, long)) asks in
+    let u = p .1 .1 .1 .3 ∙ sym (stir-is (s .notes .now) (s .k * 128 + s .e) (omega (arith, p .1 .0 .0 .place, p .1 .0 .0 .train))) in
+    let near = row-of (Settled T (s .t + 1) (stirIn (s .notes .now)) (askedIn (s .notes .now)) (rowsIn (s .n) (s .rows .now))) (s .i) (s .n) (s .rows .now) less (omega (arith, long)) (p .1 .1 .1 .1 .calm) .place in
     let q = c .before .before .before .before .before .before .before .before .before .before .before .before .before .before .before .before .before .before .before .before .before .before .before .before .before .assign .ensures in
-    served-law T (s .t) (s .e) (s .k) (s .n) x (s .rows .now) (s .weights .now) (s .notes .now) (p .1 .0 .0) (p .1 .0 .1) (p .1 .0 .2) (p .0 .rows-are) (p .1 .1 .0 .1) asked asker near (p .1 .1 .0 .3) (p .1 .1 .1 .0) (p .1 .1 .1 .1) (c .before .before .before .before .before .before .before .before .before .before .before .before .before .before .before .before .before .before .before .pass .result .moved) _ _ _ _ (c .before .before .before .before .before .before .before .before .before .before .before .before .before .before .before .before .before .before .before .pass .result) (omega (arith, c .before .before .before .before .before .before .before .before .before .before .before .before .before .before .before .before .before .before .rows)) (rw (q, u) at (c .before .before .before .before .before .before .before .before .before .before .before .before .before .before .before .before .before .before .before .pass .ensures .0)) (rw (q, u) at (c .before .before .before .before .before .before .before .before .before .before .before .before .before .before .before .before .before .before .before .pass .ensures .1)) (rw q at (c .before .before .before .before .before .before .arrive .ensures)) (rw q at (c .before .before .settle .ensures))
+    served-law T (s .t) (s .e) (s .k) (s .n) x (s .rows .now) (s .weights .now) (s .notes .now) (p .1 .0 .0) (p .1 .0 .1) (p .1 .0 .2) (p .0 .rows-are) long asked near asks (p .1 .1 .1 .0) (p .1 .1 .1 .1) (s .key) keyed reach (c .before .before .before .before .before .before .before .before .before .before .before .before .before .before .before .before .before .before .before .pass .result .moved) _ _ _ _ (c .before .before .before .before .before .before .before .before .before .before .before .before .before .before .before .before .before .before .before .pass .result) (omega (arith, c .before .before .before .before .before .before .before .before .before .before .before .before .before .before .before .before .before .before .rows)) (rw (q, u) at (c .before .before .before .before .before .before .before .before .before .before .before .before .before .before .before .before .before .before .before .pass .ensures .0)) (rw (q, u) at (c .before .before .before .before .before .before .before .before .before .before .before .before .before .before .before .before .before .before .before .pass .ensures .1)) (rw q at (c .before .before .before .before .before .before .arrive .ensures)) (rw q at (c .before .before .settle .ensures))
 
 pub served-spec : {M : Type 1} → statement M
 served-spec =

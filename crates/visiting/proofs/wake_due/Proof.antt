@@ -10,7 +10,7 @@ use Rattle.visiting.proofs.wake_due.Tie as tie
 use Rattle.visiting.proofs.wake_due.Reads as reads
 use Rattle.visiting.proofs.wake_due.Lts as lts
 use Rattle.asking.proofs.due.Reads as due-reads
-use Rattle.rows.proofs.at.Reads as at-reads
+use Rattle.words.proofs.at.Reads as at-reads
 use Rattle.waiting.proofs.wake.Reads as wake-reads
 
 due-requires : tie.Need-due-requires

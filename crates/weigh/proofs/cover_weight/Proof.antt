@@ -13,7 +13,7 @@ use Rattle.weigh.proofs.cover_weight.Tie as tie
 use Rattle.weigh.proofs.cover_weight.Reads as reads
 use Rattle.weigh.proofs.cover_weight.Lts as lts
 use Rattle.weigh.proofs.set_weight.Reads as set-weight-reads
-use Rattle.rows.proofs.at.Reads as at-reads
+use Rattle.words.proofs.at.Reads as at-reads
 
 abbrev Inv-loop : tie.InvT-loop
 Inv-loop tables c n j₀ left₀ product₀ j left product = (n ≡ getD tables 0 0) × (j ≤ n) × (coverWeight tables 0 n c ≡ product * coverWeight tables j (n - j) left) × (product ≤ 100 ^ j)

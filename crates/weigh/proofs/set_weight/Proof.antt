@@ -10,7 +10,7 @@ use Rattle.weigh.proofs.set_weight.Statement.{statement}
 use Rattle.weigh.proofs.set_weight.Tie as tie
 use Rattle.weigh.proofs.set_weight.Reads as reads
 use Rattle.weigh.proofs.set_weight.Lts as lts
-use Rattle.rows.proofs.at.Reads as at-reads
+use Rattle.words.proofs.at.Reads as at-reads
 
 abbrev Inv-loop : tie.InvT-loop
 Inv-loop tables j x i₀ end left₀ sum₀ i left sum = (i ≤ 120 + j * 8) × (112 + j * 8 ≤ i) × (end ≡ 120 + j * 8) × (setWeight tables (112 + j * 8) 8 x ≡ sum + setWeight tables i (120 + j * 8 - i) left)

@@ -1,0 +1,5 @@
+pub mod Tests
+pub mod Each
+pub mod Every
+pub mod Sums
+pub mod Below
