@@ -4,11 +4,12 @@ use mathlib.Core.Bool.{Bool, true, false, not, cond, false≢true}
 use mathlib.Core.List.{List, [], _∷_, _++_}
 use Prim.Native.Nat.{ℕ, _+_, _*_, _/_, _%_, _≤_, _<_}
 use native.Mathlib.Omega.{arith}
-use borrow.Author.Tests.{eqb-true, eqb-false, le-ltb, ltb-true, ltb-false}
+use borrow.Author.Tests.{not-true, eqb-true, eqb-false, le-ltb, ltb-true, ltb-false}
 use lib.ListN.{length, take, getD}
 use lib.Dec.{eqb, ltb}
 use Rattle.rules.specs.Lists.{one, keep}
-use Rattle.lists.specs.Every.{Every, every-append, every-more, every-keep, every-one}
+use Rattle.lists.specs.Every.{Every, every-append, every-more, every-keep}
+use Rattle.lists.specs.Kept.{keep-passes}
 use Rattle.rows.specs.Rows.{Row, rowsOf, rowsIn, rowAt, endedOf, sweptOf}
 use Rattle.rows.specs.Written.{rowsIn-more}
 use Rattle.rows.specs.Swept.{Closing, next-row}
@@ -151,13 +152,8 @@ clear-swept T t N M l d h = record {
 -- of the rows that stay none has ended
 pub swept-current : (t : ℕ) (l : List Row) → Every (λ r. endedOf t (r .state) ≡ false) (sweptOf t l)
 unfolding sweptOf
-swept-current t [] = tt
-swept-current t (r ∷ l) = every-append (λ x. endedOf t (x .state) ≡ false) (one (not (endedOf t (r .state))) r) (keep (λ x. not (endedOf t (x .state))) l)
-    (every-one (λ x. endedOf t (x .state) ≡ false) (not (endedOf t (r .state))) r (λ h. go (endedOf t (r .state)) h)) (swept-current t l)
-  where
-    go : (b : Bool) → not b ≡ true → b ≡ false
-    go true h = sym h
-    go false h = refl
+swept-current t l =
+    every-more (λ r. not (endedOf t (r .state)) ≡ true) (λ r. endedOf t (r .state) ≡ false) (λ r h. not-true (endedOf t (r .state)) h) (sweptOf t l) (keep-passes (λ r. not (endedOf t (r .state))) l)
 
 module _ (T : List ℕ) (t : ℕ) (N : List ℕ) (l : List Row) (d : Due T t N l) (current : Every (λ r. endedOf t (r .state) ≡ false) l) where
   -- where no row shows that it is due now, none is

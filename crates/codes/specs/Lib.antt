@@ -2,3 +2,4 @@ pub mod Codes
 pub mod Tables
 pub mod Lookups
 pub mod Places
+pub mod States

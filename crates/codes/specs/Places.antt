@@ -8,13 +8,14 @@ use native.Mathlib.Omega.{arith}
 use lib.Dec.{ltb, leb, eqb}
 use borrow.Author.Tests.{eqb-true, eqb-false, ne-eqb, ltb-true, ltb-false, lt-ltb, le-ltb, leb-true, leb-false}
 use Rattle.rules.specs.Files.{Case}
-use Rattle.rules.specs.Turns.{Place, same, Leg, headIs}
+use Rattle.rules.specs.Turns.{Place, same, Leg, way, after, ahead, headIs}
 use Rattle.rules.specs.Turns.Place.{outside, station, track, gone}
 use Rattle.sound.specs.Facts.{Sound}
-use Rattle.sound.specs.Ways.{same-true, same-self}
-use Rattle.sound.specs.Trains.{Known}
+use Rattle.lists.specs.Every.{Every}
+use Rattle.sound.specs.Ways.{same-true, same-self, after-every}
+use Rattle.sound.specs.Trains.{Known, way-known}
 use Rattle.codes.specs.Codes.{codeOf, nowhere, placeOf}
-use Rattle.codes.specs.Tables.{headCode}
+use Rattle.codes.specs.Tables.{headCode, nextCode}
 
 -- ---- places that have a code of their own
 
@@ -119,3 +120,16 @@ module _ (C : Case) (sound : Sound C) where
   known-few (station i) h = omega (arith, sound .few-stations)
   known-few (track j) h = omega (arith, sound .few-tracks)
   known-few gone h = omega arith
+
+  code-small : (ls : List Leg) → Every (λ l. Known C (l .place)) ls → headCode ls < 128
+  code-small [] h = omega arith
+  code-small (l ∷ ls) h = omega (arith, known-few (l .place) (h .0))
+
+  -- the code of what a way goes on with has 7 bits
+  pub next-small : (k p : ℕ) → nextCode C k p < 128
+  unfolding nextCode ahead
+  next-small k p = go (same (placeOf p) outside)
+    where
+      go : (b : Bool) → headCode (cond b (way C k) (after (placeOf p) (way C k))) < 128
+      go true = code-small (way C k) (way-known C sound k)
+      go false = code-small (after (placeOf p) (way C k)) (after-every (λ l. Known C (l .place)) (placeOf p) (way C k) (way-known C sound k))

@@ -16,7 +16,7 @@ use lib.Dec.{ltb}
 use Rattle.rules.specs.Lists.{each}
 use Rattle.cut.specs.declared.Pieces.{Pieces}
 use Rattle.cut.specs.Cut.{Part, part, fullOf, outsideOf, outs, carried, passed, Room, fitting, Wrote}
-use Rattle.cut.specs.Covers.{power, outs-nothing}
+use Rattle.cut.specs.Outside.{power, outs-nothing}
 use Rattle.cut.specs.Written.{wrote-none, fitting-none, fitting-one, fitting-join, room-after}
 
 -- ---- what is passed over

@@ -36,10 +36,6 @@ below-passes (suc n) test h b l = go (below-passes n test (((and-eq-true-iff (te
 byte-marks : (b : ℕ) → b < 256 → marks 127 128 b ≡ cond (eqb b 0) 0 128
 byte-marks b h = eqb-true _ _ (below-passes 256 (λ k. eqb (marks 127 128 k) (cond (eqb k 0) 0 128)) refl b h)
 
-bytes-low : (n : ℕ) → bytesOf n 127 < 256 ^ n
-bytes-low zero = omega arith
-bytes-low (suc n) = omega (arith, bytes-low n, pow-succ' 256 n)
-
 marks-more : (n v b : ℕ) → b < 256 → marks (bytesOf (suc n) 127) (bytesOf (suc n) 128) (v * 256 + b) ≡ marks (bytesOf n 127) (bytesOf n 128) v * 256 + cond (eqb b 0) 0 128
 marks-more n v b h =
     let low : ℕ = bytesOf n 127 in

@@ -1,7 +1,7 @@
 pub mod Cut
 pub mod Packed
-pub mod Lists
 pub mod Written
 pub mod Sets
+pub mod Outside
 pub mod Covers
 pub mod Bridge

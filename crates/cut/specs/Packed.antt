@@ -31,8 +31,3 @@ pub data Sets : ℕ → ℕ → Cover → Type 0 where
 -- a cover of n trains, at most eight
 abbrev pub Packable : ℕ → Cover → Type 0
 Packable n p = Sets 8 n p
-
--- each of the list has the property
-pub data Every {A : Type 0} (P : A → Type 0) : List A → Type 0 where
-  nil : Every P []
-  cons : {a : A} {l : List A} → P a → Every P l → Every P (a ∷ l)

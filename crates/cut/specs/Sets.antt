@@ -11,13 +11,10 @@ use lib.Bits.{bitAnd, and-block, and-comm, and-le-l}
 use lib.Pow.{pow-pos}
 use lib.Dec.{eqb, ltb}
 use Rattle.rules.specs.Lists.{keep, sum, has, span, below}
-use Rattle.rules.specs.Files.{rising}
 use Rattle.rules.specs.Joint.{common, without, isEmpty}
 use Rattle.rules.specs.Calls.{setImage}
-use Rattle.cut.specs.Lists.{every-weaken}
-use Rattle.cut.specs.Packed.{Delays, Every}
+use Rattle.cut.specs.Packed.{Delays}
 use Rattle.cut.specs.Packed.Delays.{none, takes, skips}
-use Rattle.cut.specs.Packed.Every.{nil, cons}
 
 -- the delays of s that f picks by whether u has them
 abbrev pickedBy : (Bool → Bool) → List ℕ → List ℕ → List ℕ
@@ -142,38 +139,3 @@ whole-delays n h = span-delays n 8 0 h
 -- a set of one delay
 pub single-delays : (d : ℕ) → d < 8 → Delays 8 0 (d ∷ []) (2 ^ d)
 single-delays d h = rw (zero-add d) at (one-delay d 8 0 h)
-
--- ---- a rising list of numbers below 8 is a set of delays
-
--- a rising list goes on above its first, and on rising
-rising-on : (d : ℕ) (s : List ℕ) → rising (d ∷ s) ≡ true → rising s ≡ true
-rising-on d [] h = refl
-rising-on d (e ∷ s) h = ((and-eq-true-iff (ltb d e) (rising (e ∷ s))) .0 h) .1
-
-rising-above : (d : ℕ) (s : List ℕ) → rising (d ∷ s) ≡ true → Every (λ e. d < e) s
-rising-above d [] h = nil
-rising-above d (e ∷ s) h =
-    let l : d < e = ltb-true d e (((and-eq-true-iff (ltb d e) (rising (e ∷ s))) .0 h) .0) in
-    cons l (every-weaken (λ f k. omega arith) (rising-above e s (((and-eq-true-iff (ltb d e) (rising (e ∷ s))) .0 h) .1)))
-
-rising-from : (n k : ℕ) (s : List ℕ) → rising s ≡ true → Every (λ d. k ≤ d) s → Every (λ d. d < k + n) s → (v : ℕ) × Delays n k s v
-rising-from zero k [] h low high = (0, none)
-rising-from zero k (d ∷ s) h (cons l low) (cons g high) = absurd (omega arith)
-rising-from (suc n) k [] h low high = let r = rising-from n (suc k) [] refl nil nil in (r .0 * 2, skips (r .1))
-rising-from (suc n) k (d ∷ s) h (cons l low) (cons g high) = go (rising-from n (suc k)) (eqb d k) refl
-  where
-    go : ((s : List ℕ) → rising s ≡ true → Every (λ d. suc k ≤ d) s → Every (λ d. d < suc k + n) s → (v : ℕ) × Delays n (suc k) s v)
-        → (t : Bool) → eqb d k ≡ t → (v : ℕ) × Delays (suc n) k (d ∷ s) v
-    go less true e =
-        let same : d ≡ k = eqb-true d k e in
-        let r = less s (rising-on d s h) (every-weaken (λ f m. omega arith) (rising-above d s h)) (every-weaken (λ f m. omega arith) high) in
-        (r .0 * 2 + 1, subst (λ (f : ℕ). Delays (suc n) k (f ∷ s) (r .0 * 2 + 1)) (sym same) (takes (r .1)))
-    go less false e =
-        let above : suc k ≤ d = omega (arith, eqb-false d k e) in
-        let r = less (d ∷ s) h (cons above (every-weaken (λ f m. omega arith) (rising-above d s h))) (cons (omega arith) (every-weaken (λ f m. omega arith) high)) in
-        (r .0 * 2, skips (r .1))
-
-pub rising-delays : (s : List ℕ) → rising s ≡ true → Every (λ d. d < 8) s → Delays 8 0 s (setImage s)
-rising-delays s h k =
-    let r = rising-from 8 0 s h (every-weaken (λ f m. omega arith) k) (every-weaken (λ f m. omega arith) k) in
-    rw (image-delays (r .1)) (r .1)

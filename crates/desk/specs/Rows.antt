@@ -13,20 +13,20 @@ use Rattle.rules.specs.Turns.{State, Place}
 use Rattle.rules.specs.Turns.Place.{outside, station, track, gone}
 use Rattle.rules.specs.Joint.{Cover, Entry, firstList, joint}
 use Rattle.sound.specs.Facts.{Sound}
-use Rattle.lists.specs.Every.{Every}
-use Rattle.simulation.specs.Simulation.{Sets, joint-sets}
+use Rattle.lists.specs.Every.{Every, every-more}
+use Rattle.simulation.specs.Simulation.{joint-proper}
 use Rattle.trace.specs.Longest.{passes}
 use Rattle.weights.specs.Room.{met-minutes, list-fits}
 use Rattle.passes.specs.Joint.{joint-passes}
 use Rattle.passes.specs.Bounds.{ByteDelays, Bounded, bounded-train, bounded-minute, joint-bounded}
 use Rattle.codes.specs.Codes.{stateOf}
-use Rattle.cut.specs.Packed as cut
+use Rattle.cut.specs.Packed.{packed, Packable}
 use Rattle.rows.specs.Rows as rows
-use Rattle.codes.specs.Places.{Coded}
-use Rattle.entries.specs.Coded.{bounded-coded}
+use Rattle.entries.specs.Coded.{bounded-fit}
+use Rattle.entries.specs.Agreeing.{good-every}
 use Rattle.entries.specs.Encoded as encoded
 use Rattle.entries.specs.Answer as joints
-use Rattle.images.specs.Rows.{packed, rowOf, SmallPlace, SmallEntry}
+use Rattle.images.specs.Rows.{rowOf, SmallEntry}
 use Rattle.rules.specs.Refusals.Result.{answer}
 use Rattle.sound.specs.Accepted.{accepted-sound}
 use Rattle.codes.specs.Tables.{tables}
@@ -43,52 +43,27 @@ use Rattle.desk.specs.Steps.Came.{over, stands}
 
 -- ---- a row's words
 
-packed-same : (b : ℕ) (p : Cover) → cut.packedIn b p ≡ packed b p
-unfolding cut.packedIn
-packed-same zero p = refl
-packed-same (suc b) [] = omega (arith, packed-same b [])
-packed-same (suc b) (s ∷ p) = omega (arith, packed-same b p)
-
 words-same : (es : List Entry) → rows.words (map encoded.rowOf es) ≡ each rowOf es
 unfolding rows.words encoded.rowOf rowOf
 words-same [] = refl
-words-same (r ∷ es) = ap₂ (λ (c : ℕ) (l : List ℕ). stateOf (r .mark) ∷ c ∷ l) (packed-same 8 (r .cover)) (words-same es)
+words-same (r ∷ es) = ap (λ (l : List ℕ). stateOf (r .mark) ∷ packed (r .cover) ∷ l) (words-same es)
 
 -- ---- the entries of the run
 
 module _ (C : Case) (sound : Sound C) where
-  coded-place : (p : Place) → Coded p → SmallPlace p
-  coded-place outside h = tt
-  coded-place (station i) h = h
-  coded-place (track j) h = h
-  coded-place gone h = tt
-
-  entry-small : (r : Entry) → Bounded C (r .mark) → Sets C (r .cover) → SmallEntry (length (C .trains)) r
-  entry-small r b s = record {
-    mark = record {
-      train = omega (arith, bounded-train C sound (r .mark) b);
-      place = coded-place (r .mark .place) (bounded-coded C sound (r .mark) b);
-      minute = bounded-minute C sound (r .mark) b;
-    };
-    cover = record {
-      few = omega (arith, sound .few-trains);
-      per-train = s .per-train;
-      sets = λ k l. record { few = λ d h. omega (arith, s .of-table k d l h, sound .few-pairs k l); once = λ d. s .once k d l };
-    };
+  entry-small : (r : Entry) → encoded.Good C r → SmallEntry (length (C .trains)) r
+  entry-small r g = record {
+    train = omega (arith, bounded-train C sound (r .mark) (g .0));
+    mark = bounded-fit C sound (r .mark) (g .0);
+    cover = subst (λ (n : ℕ). Packable n (r .cover)) (sound .tabled) (encoded.proper-packable C sound (r .cover) (g .1));
   }
 
-  entries-small : (es : List Entry) → Every (λ r. Bounded C (r .mark)) es → Every (λ r. Sets C (r .cover)) es
-      → (i : ℕ) (r : Entry) → i < length es → SmallEntry (length (C .trains)) (getD es i r)
-  entries-small [] b s i r h = absurd (omega arith)
-  entries-small (a ∷ es) b s zero r h = entry-small a (b .0) (s .0)
-  entries-small (a ∷ es) b s (suc i) r h = entries-small es (b .1) (s .1) i r (omega arith)
-
   module _ (bytes : ByteDelays C) (m : ℕ) (within : m ≤ C .head .lastMinute) where
-    list-small : (i : ℕ) (r : Entry) → i < length (joint C m .list) → SmallEntry (length (C .trains)) (getD (joint C m .list) i r)
+    list-small : Every (SmallEntry (length (C .trains))) (joint C m .list)
     list-small =
-        entries-small (joint C m .list)
-        (subst (λ (s : State Entry). Every (λ r. Bounded C (r .mark)) (s .list)) (sym (joint-passes C sound m)) (joint-bounded C sound bytes m within))
-        (joint-sets C sound m .0)
+        every-more (encoded.Good C) (SmallEntry (length (C .trains))) entry-small (joint C m .list)
+        (good-every C (joint C m .list) (joint-proper C sound m .0)
+        (subst (λ (s : State Entry). Every (λ r. Bounded C (r .mark)) (s .list)) (sym (joint-passes C sound m)) (joint-bounded C sound bytes m within)))
 
     -- what the run in code answers, with its rows at the start of the lent list
     run-came : {w end r : ℕ} (rows list rest ws : List ℕ) → joints.Answer C m w rows ws → list ≡ rows ++ rest → length rows ≡ end → end ≤ 2050 → length ws ≡ 5760

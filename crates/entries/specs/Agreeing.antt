@@ -19,7 +19,7 @@ use Rattle.simulation.specs.Serving.{Proper}
 use Rattle.codes.specs.Codes.{placeOf}
 use Rattle.codes.specs.Tables.{order, tables}
 use Rattle.passes.specs.Passes.{passList, pass, cleared, elementPasses, minutePasses, minutesPasses}
-use Rattle.passes.specs.Lists.{fold-append}
+use Rattle.lists.specs.Folds.{fold-append}
 use Rattle.passes.specs.Order.{order-known, order-length}
 use Rattle.passes.specs.Joint.{Lawful, pass-lawful, pass-nobody, pass-met, pass-refused, cleared-lawful}
 use Rattle.passes.specs.Bounds.{AllBounded, pass-bounded, cleared-bounded}
@@ -30,7 +30,7 @@ use Rattle.elements.specs.Elements.{elementOf, elementsOf}
 use Rattle.entries.specs.Run.{clearedOf, minuteOf, minutesOf}
 use Rattle.visiting.specs.Visit.Outcome.{refused, stands}
 use Rattle.visiting.specs.Visiting.{guard-in, guard-out}
-use Rattle.opening.specs.Beginning.{below-more}
+use Rattle.lists.specs.Below.{below-more}
 use Rattle.codes.specs.Lookups.{table-order, table-trains, table-room}
 use Rattle.entries.specs.Encoded.{rowOf, Good, swept-rows}
 use Rattle.entries.specs.Rowed.{Asker, asker-of, asked-none, passed-is}
@@ -46,7 +46,7 @@ pub data Agrees (C : Case) (s : State Entry) : Outcome → Type 0 where
 abbrev pub Kind : Case → State Entry → Type 0
 Kind C s = Lawful C s × AllBounded C (λ r. r .mark) (s .list)
 
-good-every : (C : Case) (l : List Entry) → Every (Proper C) l → AllBounded C (λ r. r .mark) l → Every (Good C) l
+pub good-every : (C : Case) (l : List Entry) → Every (Proper C) l → AllBounded C (λ r. r .mark) l → Every (Good C) l
 good-every C [] p b = tt
 good-every C (r ∷ l) p b = ((b .0, p .0), good-every C l (p .1) (b .1))
 

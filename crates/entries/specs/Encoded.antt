@@ -14,7 +14,7 @@ use Rattle.rules.specs.Turns.{Place, same, Mark, ahead, headIs, asks, ended, ca
 use Rattle.rules.specs.Turns.Place.{gone}
 use Rattle.rules.specs.Joint.{Cover, whole, Entry, piece, carry, meets}
 use Rattle.sound.specs.Facts.{Sound}
-use Rattle.lists.specs.Every.{Every, every-each, every-one}
+use Rattle.lists.specs.Every.{Every, every-each, every-one, every-more}
 use Rattle.simulation.specs.Parts.{Part, Parts}
 use Rattle.simulation.specs.Serving.{Proper}
 use Rattle.codes.specs.Codes.{codeOf, placeOf, stateOf}
@@ -23,7 +23,6 @@ use Rattle.passes.specs.Passes.{asksFor, piecesAmong}
 use Rattle.passes.specs.Bounds.{Bounded, bounded-train}
 use Rattle.passes.specs.Elements.{ahead-known}
 use Rattle.cut.specs.Cut.{part, carried}
-use Rattle.cut.specs.Packed as packs
 use Rattle.cut.specs.Packed.{packed, packedPiece, Delays, Sets, Packable}
 use Rattle.cut.specs.Packed.Delays.{none, takes, skips}
 use Rattle.cut.specs.Bridge.{carried-carry}
@@ -31,7 +30,8 @@ use Rattle.rows.specs.Rows.{Row, row, meetsOf, metOf, sweptOf}
 use Rattle.asking.specs.declared.Job.{Job}
 use Rattle.asking.specs.Ask.{nextOf, asksOf, capOf, metFor}
 use Rattle.codes.specs.Places.{known-coded, coded-small, place-code, code-place, code-test, head-code, place-coded}
-use Rattle.entries.specs.Coded.{bounded-coded, Fit, bounded-fit, state-train, state-place, state-way, ended-state, due-state}
+use Rattle.entries.specs.Coded.{bounded-coded, bounded-fit, ended-state, due-state}
+use Rattle.codes.specs.States.{Fit, state-train, state-place, state-way}
 use Rattle.codes.specs.Lookups.{table-next, table-capacity}
 
 -- an entry as a row
@@ -74,10 +74,6 @@ pub proper-packable : (C : Case) → Sound C → (p : Cover) → Parts (whole C)
 unfolding whole
 proper-packable C sound p h =
     parts-sets 8 (C .tables) p (omega (arith, sound .tabled, sound .few-trains)) (λ k l. sound .few-pairs k (omega (arith, sound .tabled))) h
-
-packable-every : (C : Case) → Sound C → (l : List Cover) → Every (Parts (whole C)) l → packs.Every (Packable (length (C .tables))) l
-packable-every C sound [] h = packs.Every.nil
-packable-every C sound (p ∷ l) h = packs.Every.cons (proper-packable C sound p (h .0)) (packable-every C sound l (h .1))
 
 -- ---- places
 
@@ -181,7 +177,7 @@ module _ (C : Case) (sound : Sound C) (t e k : ℕ) (low : e ≤ 64) where
           ≡ map packedPiece (cond (eqb e 64) (piece p false ∷ []) (carry (capacity C (placeOf e)) (meets (placeOf e) k l) 0 p))
       go true z =
           ap₂ (λ (x : ℕ) (es : List ℕ). carried x es 0 (packed p)) (table-capacity C e (ltb-true e 64 z)) (met-rows l h)
-          ∙ carried-carry (capacity C (placeOf e)) (packable-every C sound (meets (placeOf e) k l) (meets-parts l h)) 0 p (proper-packable C sound p ps)
+          ∙ carried-carry (capacity C (placeOf e)) (meets (placeOf e) k l) (every-more (Parts (whole C)) (Packable (length (C .tables))) (proper-packable C sound) (meets (placeOf e) k l) (meets-parts l h)) 0 p (proper-packable C sound p ps)
           ∙ ap (λ (y : Bool). map packedPiece (cond y (piece p false ∷ []) (carry (capacity C (placeOf e)) (meets (placeOf e) k l) 0 p))) (sym (ne-eqb e 64 (λ y. omega (arith, ltb-true e 64 z))))
       go false z = free ∙ ap (λ (y : Bool). map packedPiece (cond y (piece p false ∷ []) (carry (capacity C (placeOf e)) (meets (placeOf e) k l) 0 p))) (sym (eq-eqb e 64 (omega (arith, ltb-false e 64 z))))
         where

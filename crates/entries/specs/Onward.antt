@@ -19,27 +19,10 @@ use Rattle.codes.specs.Tables.{headCode, nextCode, stayOn, tables}
 use Rattle.passes.specs.Elements.{ahead-known}
 use Rattle.passes.specs.Before.{placeBefore, asker-place}
 use Rattle.visiting.specs.Visit.{Ways}
-use Rattle.codes.specs.Places.{known-coded, coded-small, place-code, code-place}
+use Rattle.codes.specs.Places.{known-coded, place-code, code-place, next-small}
 use Rattle.codes.specs.Lookups.{table-next, table-stay, table-trains, table-delays}
 
--- the code of a place that is one of a way's, or outside
-near-code : (p : ℕ) → p ≤ 65 → codeOf (placeOf p) ≡ p
-unfolding placeOf
-near-code p h = go (eqb p 65) refl
-  where
-    go : (b : Bool) → eqb p 65 ≡ b → codeOf (placeOf p) ≡ p
-    go true e = ap (λ (y : ℕ). codeOf (placeOf y)) (eqb-true p 65 e) ∙ sym (eqb-true p 65 e)
-    go false e = let other : p ≡ 65 → ⊥ = eqb-false p 65 e in code-place p (omega arith)
-
 module _ (C : Case) (sound : Sound C) where
-  next-fits : (k p : ℕ) → nextCode C k p < 128
-  unfolding nextCode
-  next-fits k p = go (ahead C k (placeOf p)) (λ e h. ahead-known C sound k (placeOf p) e h)
-    where
-      go : (ls : List Leg) → ((e : Place) → headIs e ls ≡ true → Known C e) → headCode ls < 128
-      go [] h = omega arith
-      go (l ∷ ls) h = omega (arith, coded-small (l .place) (known-coded C sound (l .place) (h (l .place) (same-self (l .place)))))
-
   -- the next element of a place, where there is one
   next-is : (k p e : ℕ) → e ≤ 64 → nextCode C k p ≡ e → headIs (placeOf e) (ahead C k (placeOf p)) ≡ true
   unfolding nextCode
@@ -60,7 +43,7 @@ module _ (C : Case) (sound : Sound C) where
 
   same-before : (k p q e : ℕ) → p ≤ 65 → q ≤ 65 → e ≤ 64 → nextCode C k p ≡ e → nextCode C k q ≡ e → p ≡ q
   same-before k p q e a b low h j =
-      sym (near-code p a) ∙ ap codeOf (stands-before k p e low h ∙ sym (stands-before k q e low j)) ∙ near-code q b
+      sym (code-place p a) ∙ ap codeOf (stands-before k p e low h ∙ sym (stands-before k q e low j)) ∙ code-place q b
 
   -- word i is of train i / 128 and place i % 128
   next-at : (i : ℕ) → i < 1024 → getD (tables C) (240 + i) 0 ≡ nextCode C (i / 128) (i % 128)
@@ -82,7 +65,7 @@ module _ (C : Case) (sound : Sound C) where
   pub tables-ways : Ways (tables C)
   tables-ways = record {
     stays = stay-at;
-    nexts = λ i h. omega (arith, next-at i h, next-fits (i / 128) (i % 128));
+    nexts = λ i h. omega (arith, next-at i h, next-small C sound (i / 128) (i % 128));
     one-place = λ i j h l a b k low same.
         (let train : nextCode C (i / 128) (j % 128) ≡ getD (tables C) (240 + i) 0 = ap (λ (y : ℕ). nextCode C y (j % 128)) k ∙ sym (next-at j l) ∙ sym same in
         let p : i % 128 ≡ j % 128 = same-before (i / 128) (i % 128) (j % 128) (getD (tables C) (240 + i) 0) a b low (sym (next-at i h)) train in

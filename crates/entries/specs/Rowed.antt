@@ -30,7 +30,8 @@ use Rattle.asking.specs.Ask.{asksOf, askerOf, jobOf, capOf, metFor, askingOf}
 use Rattle.serving.specs.Pass.{holdRow, enterRow, coversOf, passedOf}
 use Rattle.visiting.specs.Visit.{someAsks, jobFor}
 use Rattle.codes.specs.Places.{Coded, code-place}
-use Rattle.entries.specs.Coded.{bounded-coded, bounded-fit, state-place}
+use Rattle.codes.specs.States.{state-place}
+use Rattle.entries.specs.Coded.{bounded-coded, bounded-fit}
 use Rattle.codes.specs.Lookups.{table-stay, table-safety}
 use Rattle.entries.specs.Encoded.{rowOf, Good, asks-row, pieces-row}
 

@@ -2,10 +2,10 @@
 -- Places go by the tests of `placeOf`; parts of one width stand behind each other. Assumes nothing.
 use mathlib.Core.Path.{_≡_, refl, sym, ap, _∙_}
 use mathlib.Core.Bool.{Bool, true, false, cond}
-use mathlib.Core.List.{List, []}
+use mathlib.Core.List.{List, [], _∷_}
 use Prim.Native.Nat.{ℕ, zero, suc, _+_, _*_, _≤_, _<_}
 use native.Mathlib.Omega.{arith}
-use lib.ListN.{length, getD, take}
+use lib.ListN.{length, getD, take, set}
 use lib.Seq.{sets}
 use lib.Dec.{eqb}
 use Rattle.rules.specs.Lists.{each, below}
@@ -13,7 +13,7 @@ use Rattle.rules.specs.Turns.{numberOf}
 use Rattle.rules.specs.Turns.Place.{outside, gone}
 use Rattle.rules.specs.Joint.{Entry}
 use Rattle.rules.specs.Calls.{bytes, filled, rowImage, Run, weightsImage}
-use Rattle.images.specs.Writing.{sets-append}
+use Rattle.lists.specs.Writes.{sets-append}
 use Rattle.images.specs.Filled.{filled-sets, filled-whole}
 use Rattle.images.specs.Below.{length-parts, parts-more, each-take}
 use Rattle.images.specs.Rows.{markBytes, coverBytes, rowBytes, imageOfRows, imageOfWords, Held, Weighed}
@@ -29,6 +29,20 @@ marks-block (suc (suc b)) h = absurd (omega arith)
 pub number-none : (b : Bool) → 0 ≡ numberOf (cond b gone outside)
 number-none true = refl
 number-none false = refl
+
+-- eight stores, one after the other, of what eight numbers are
+pub sets-eight : (l : List ℕ) (i : ℕ) {a b c d e f g h A B C D E F G H : ℕ} → a ≡ A → b ≡ B → c ≡ C → d ≡ D → e ≡ E → f ≡ F → g ≡ G → h ≡ H
+    → set (set (set (set (set (set (set (set l i a) (i + 1) b) (i + 2) c) (i + 3) d) (i + 4) e) (i + 5) f) (i + 6) g) (i + 7) h
+    ≡ sets l i (A ∷ B ∷ C ∷ D ∷ E ∷ F ∷ G ∷ H ∷ [])
+sets-eight l i p q r s t u v w =
+    let e1 : i + 1 ≡ suc i = omega arith in
+    let e2 : i + 2 ≡ suc (suc i) = omega arith in
+    let e3 : i + 3 ≡ suc (suc (suc i)) = omega arith in
+    let e4 : i + 4 ≡ suc (suc (suc (suc i))) = omega arith in
+    let e5 : i + 5 ≡ suc (suc (suc (suc (suc i)))) = omega arith in
+    let e6 : i + 6 ≡ suc (suc (suc (suc (suc (suc i))))) = omega arith in
+    let e7 : i + 7 ≡ suc (suc (suc (suc (suc (suc (suc i)))))) = omega arith in
+    rw (e1, e2, e3, e4, e5, e6, e7, p, q, r, s, t, u, v, w)
 
 -- ---- a row
 

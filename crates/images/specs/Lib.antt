@@ -1,4 +1,3 @@
-pub mod Writing
 pub mod Filled
 pub mod Below
 pub mod Rows

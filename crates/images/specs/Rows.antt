@@ -1,29 +1,25 @@
 -- A row as the runs hold it, a state and a packed cover, and its image. Assumes nothing: these are definitions.
 use mathlib.Core.Path.{_≡_}
-use mathlib.Core.Bool.{true, cond}
+use mathlib.Core.Bool.{cond}
 use mathlib.Core.List.{List, [], _∷_, _++_}
-use Prim.Native.Nat.{ℕ, zero, suc, _+_, _*_, _/_, _%_, _≤_, _<_}
+use Prim.Native.Nat.{ℕ, _+_, _*_, _/_, _%_, _≤_, _<_}
 use lib.ListN.{length, getD, take}
-use lib.Dec.{ltb, eqb}
-use Rattle.rules.specs.Lists.{each, count, below, has}
+use lib.Dec.{ltb}
+use Rattle.rules.specs.Lists.{each, below}
 use Rattle.rules.specs.Files.{Case, mostTrains}
-use Rattle.rules.specs.Turns.{Place, kindOf, numberOf, Mark}
-use Rattle.rules.specs.Turns.Place.{outside, station, track, gone}
-use Rattle.rules.specs.Joint.{Cover, Entry, weightAt}
-use Rattle.rules.specs.Calls.{bytes, setImage}
+use Rattle.rules.specs.Turns.{kindOf, numberOf}
+use Rattle.rules.specs.Joint.{Entry, weightAt}
+use Rattle.rules.specs.Calls.{bytes}
+use Rattle.lists.specs.Every.{Every}
+use Rattle.cut.specs.Packed.{packed, Packable}
 use Rattle.codes.specs.Codes.{stateOf, markOf}
+use Rattle.codes.specs.States.{Fit}
 
 -- ---- the words of an entry
 
--- the sets of n trains, the first in the lowest byte; a train that is not there has the value 1
-abbrev pub packed : ℕ → Cover → ℕ
-packed zero p = 0
-packed (suc n) [] = 1 + 256 * packed n []
-packed (suc n) (s ∷ p) = setImage s + 256 * packed n p
-
 -- the two words of an entry
 unfoldable pub rowOf : Entry → List ℕ
-rowOf r = stateOf (r .mark) ∷ packed 8 (r .cover) ∷ []
+rowOf r = stateOf (r .mark) ∷ packed (r .cover) ∷ []
 
 -- ---- the image of two words
 
@@ -63,36 +59,16 @@ imageOfWords ws = each (bytes 8) ws
 
 -- ---- what an entry has to be for its words to tell it
 
--- delays below 8, none twice
-pub record SmallSet (s : List ℕ) : Type 0 where
-  pub few : (d : ℕ) → has s d ≡ true → d < 8
-  pub once : (d : ℕ) → count (eqb d) s ≤ 1
-
-abbrev pub SmallPlace : Place → Type 0
-SmallPlace outside = Unit
-SmallPlace (station i) = i < 24
-SmallPlace (track j) = j < 40
-SmallPlace gone = Unit
-
-pub record SmallMark (m : Mark) : Type 0 where
-  pub train : m .train < 8
-  pub place : SmallPlace (m .place)
-  pub minute : m .minute < 2048
-
--- one set for each of n trains
-pub record SmallCover (n : ℕ) (p : Cover) : Type 0 where
-  pub few : n ≤ 8
-  pub per-train : length p ≡ n
-  pub sets : (k : ℕ) → k < n → SmallSet (getD p k [])
-
+-- its mark fits a state, and its cover has a set of delays for each of n trains
 pub record SmallEntry (n : ℕ) (r : Entry) : Type 0 where
-  pub mark : SmallMark (r .mark)
-  pub cover : SmallCover n (r .cover)
+  pub train : r .mark .train < 8
+  pub mark : Fit (r .mark)
+  pub cover : Packable n (r .cover)
 
 -- the words begin with those of the entries, each of them small
 pub record Held (n : ℕ) (es : List Entry) (rows : List ℕ) : Type 0 where
   pub words : take (length es * 2) rows ≡ each rowOf es
-  pub small : (i : ℕ) → (r : Entry) → i < length es → SmallEntry n (getD es i r)
+  pub small : Every (SmallEntry n) es
 
 -- the words are the weights of train k in minute t, at k · 720 + t, of the arrivals
 pub record Weighed (C : Case) (arrived : List Entry) (ws : List ℕ) : Type 0 where

@@ -13,8 +13,9 @@ use Rattle.rules.specs.Lists.{below}
 use Rattle.lists.specs.Every.{Every, every-each, every-map}
 use Rattle.lists.specs.Below.{every-below}
 use Rattle.cut.specs.Cut.{fullOf}
-use Rattle.rows.specs.Rows.{Row, rowsOf, rowsIn, words, Put}
-use Rattle.rows.specs.Written.{words-length, rowsOf-words, put-start, put-length, put-fits}
+use Rattle.lists.specs.Writes.{Put, put-start, put-length, put-fits, zeros-at}
+use Rattle.rows.specs.Rows.{Row, rowsOf, rowsIn, words}
+use Rattle.rows.specs.Written.{words-length, rowsOf-words}
 use Rattle.weigh.specs.Weigh.{Small}
 use Rattle.waiting.specs.Notes.{Flagged}
 use Rattle.opening.specs.First.{firstByte, firstBytes, firstRow, firstRows}
@@ -90,9 +91,4 @@ module _ (T : List ℕ) (small : Small T) (ways : Ways T) where
 
 -- notes of which none is set
 pub cleared-flagged : (N : List ℕ) → length N ≡ 6272 → N ≡ replicate {A = ℕ} 6272 0 → Flagged N
-cleared-flagged N long h = record { long = long; flags = λ i l z. ap (λ (x : List ℕ). getD x i 0) h ∙ zeros 6272 i }
-  where
-    zeros : (n i : ℕ) → getD (replicate {A = ℕ} n 0) i 0 ≡ 0
-    zeros zero i = refl
-    zeros (suc n) zero = refl
-    zeros (suc n) (suc i) = zeros n i
+cleared-flagged N long h = record { long = long; flags = λ i l z. ap (λ (x : List ℕ). getD x i 0) h ∙ zeros-at 6272 i }

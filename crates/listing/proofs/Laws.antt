@@ -11,9 +11,10 @@ use lib.ListN.{length, getD, take}
 use lib.Seq.{take-suc}
 use lib.Dec.{ltb}
 use borrow.Author.Tests.{ltb-false, lt-ltb, le-ltb}
-use Rattle.rules.specs.Lists.{sum, span, below}
+use Rattle.rules.specs.Lists.{sum, below}
 use Rattle.rules.specs.Listing.{digits, decimal, minuteLine, refusedLine}
-use Rattle.images.specs.Below.{each-below-more}
+use Rattle.lists.specs.Sums.{sum-append}
+use Rattle.lists.specs.Below.{below-more, each-below-more}
 use Rattle.listing.specs.Text.{heldAt, minuteLines, leftOf, lastLine, linesOf, trainsLines, firstLine, textFrom}
 
 -- ---- digits
@@ -84,19 +85,10 @@ pub minutes-none : (ws : List ℕ) (k : ℕ) → [] ≡ minuteLines ws k 0
 unfolding minuteLines
 minutes-none ws k = refl
 
-sum-span-more : (f : ℕ → ℕ) (n k : ℕ) → sum f (span (suc n) k) ≡ sum f (span n k) + f (n + k)
-sum-span-more f zero k =
-    let at : zero + k ≡ k = omega arith in
-    rw at (omega arith)
-sum-span-more f (suc n) k =
-    let at : n + suc k ≡ suc n + k = omega arith in
-    omega (arith, sum-span-more f n (suc k), ap f at)
-
 pub left-more : (whole : ℕ) (ws : List ℕ) (k t : ℕ) → leftOf whole ws k t - heldAt ws k t ≡ leftOf whole ws k (t + 1)
 unfolding leftOf
 left-more whole ws k t =
-    let at : t + 0 ≡ t = omega arith in
-    omega (arith, ap (λ (n : ℕ). sum (heldAt ws k) (below n)) (add-one t), sum-span-more (heldAt ws k) t 0, ap (heldAt ws k) at)
+    omega (arith, ap (sum (heldAt ws k)) (below-more t), sum-append (heldAt ws k) (below t) (t ∷ []))
 
 pub left-none : (whole : ℕ) (ws : List ℕ) (k : ℕ) → whole ≡ leftOf whole ws k 0
 unfolding leftOf

@@ -13,9 +13,9 @@ use Rattle.rules.specs.Listing.{minuteLine, window, notArrived, trainLines, lis
 use Rattle.rules.specs.Calls.{filled}
 use Rattle.lists.specs.Sums.{sum-every}
 use Rattle.lists.specs.Below.{every-below}
-use Rattle.images.specs.Writing.{Wrote}
+use Rattle.lists.specs.Writes.{Put}
 use Rattle.images.specs.Filled.{cleared-length, cleared-filled, filled-sets}
-use Rattle.images.specs.Below.{each-below-same}
+use Rattle.lists.specs.Below.{each-below-same}
 use Rattle.listing.specs.Text.{heldAt, minuteLines, leftOf, lastLine, linesOf, trainsLines, firstLine, textFrom, Weighs, Listed}
 
 module _ (C : Case) (v : List Entry) (ws : List ℕ) (h : Weighs C v (length (C .trains)) (C .head .lastMinute) ws) (k : ℕ) (l : k < length (C .trains)) where
@@ -50,7 +50,7 @@ text-listing C v trains last ws h =
     here = record { all-trains = refl; all-minutes = refl; words = λ k t l m. h .words k t (omega (arith, h .all-trains)) (omega (arith, h .all-minutes)) }
 
 -- what was written into cleared text, where it fits
-pub wrote-listed : (l L : List ℕ) (r : ℕ) (l′ : List ℕ) → Wrote (filled (length l) [] l) 0 L r l′ → length L ≤ length l → Listed l L r l′
+pub wrote-listed : (l L : List ℕ) (r : ℕ) (l′ : List ℕ) → Put (filled (length l) [] l) 0 L r l′ → length L ≤ length l → Listed l L r l′
 wrote-listed l L r l′ h fits = record {
   bytes = h .list ∙ filled-sets (length l) L l (omega arith) fits;
   answer = omega (arith, h .place, ap length (cleared-filled (length l) l), cleared-length (length l) l (omega arith));

@@ -7,12 +7,12 @@ ghost use lib.ListN.{length, getD};
 ghost use Rattle.rules.specs.Refusals.{Refusal};
 ghost use Rattle.rules.specs.Listing.{decimal, minuteLine, refusedLine};
 ghost use Rattle.rules.specs.Calls.{filled};
-ghost use Rattle.images.specs.Writing.{Wrote};
+ghost use Rattle.lists.specs.Writes.{Put};
 ghost use Rattle.listing.specs.Text.{minuteLines, leftOf, lastLine, linesOf, firstLine, textFrom, Prints};
 
 // One byte more.
 fn put(text: &mut [u8], at: usize, b: u8) -> usize
-    ensures { λ r. ⌜ Wrote (now (text .entry)) at (b ∷ []) r (now (text .exit)) ⌝ }
+    ensures { λ r. ⌜ Put (now (text .entry)) at (b ∷ []) r (now (text .exit)) ⌝ }
 {
     if at < text.len() {
         text[at] = b;
@@ -23,7 +23,7 @@ fn put(text: &mut [u8], at: usize, b: u8) -> usize
 
 // The decimal digits of v, the highest first.
 fn put_decimal(text: &mut [u8], at: usize, v: u64) -> usize
-    ensures { λ r. ⌜ Wrote (now (text .entry)) at (decimal v) r (now (text .exit)) ⌝ }
+    ensures { λ r. ⌜ Put (now (text .entry)) at (decimal v) r (now (text .exit)) ⌝ }
 {
     if v < 10 {
         return put(text, at, (48 + v) as u8);
@@ -34,7 +34,7 @@ fn put_decimal(text: &mut [u8], at: usize, v: u64) -> usize
 
 // The number v and the byte after it.
 fn put_number(text: &mut [u8], at: usize, v: u64, end: u8) -> usize
-    ensures { λ r. ⌜ Wrote (now (text .entry)) at (decimal v ++ (end ∷ [])) r (now (text .exit)) ⌝ }
+    ensures { λ r. ⌜ Put (now (text .entry)) at (decimal v ++ (end ∷ [])) r (now (text .exit)) ⌝ }
 {
     let r = put_decimal(text, at, v);
     put(text, r, end)
@@ -43,7 +43,7 @@ fn put_number(text: &mut [u8], at: usize, v: u64, end: u8) -> usize
 // The bytes of a word.
 fn put_bytes(text: &mut [u8], at: usize, word: &[u8]) -> usize
     requires { ⌜ at ≤ length (now text) ⌝ }
-    ensures { λ r. ⌜ Wrote (now (text .entry)) at (now (word .entry)) r (now (text .exit)) ⌝ }
+    ensures { λ r. ⌜ Put (now (text .entry)) at (now (word .entry)) r (now (text .exit)) ⌝ }
 {
     let mut r = at;
     let mut i = 0;
@@ -57,7 +57,7 @@ fn put_bytes(text: &mut [u8], at: usize, word: &[u8]) -> usize
 // The line of train k in minute t, where the weight w is not 0.
 fn minute_line(text: &mut [u8], at: usize, k: u64, t: u64, w: u64) -> usize
     requires { ⌜ at ≤ length (now text) ⌝ }
-    ensures { λ r. ⌜ Wrote (now (text .entry)) at (minuteLine k t w) r (now (text .exit)) ⌝ }
+    ensures { λ r. ⌜ Put (now (text .entry)) at (minuteLine k t w) r (now (text .exit)) ⌝ }
 {
     if w == 0 {
         return at;
@@ -80,7 +80,7 @@ fn weight(weights: &[u64], i: usize) -> u64
 // The lines of train k for the minutes with weight, up to minute `last`.
 fn minute_lines(text: &mut [u8], at: usize, k: usize, last: usize, weights: &[u64]) -> usize
     requires { ⌜ (at ≤ length (now text)) × (k < 8) × (last ≤ 719) ⌝ }
-    ensures { λ r. ⌜ Wrote (now (text .entry)) at (minuteLines (now (weights .entry)) k (last + 1)) r (now (text .exit)) ⌝ }
+    ensures { λ r. ⌜ Put (now (text .entry)) at (minuteLines (now (weights .entry)) k (last + 1)) r (now (text .exit)) ⌝ }
 {
     let mut r = at;
     let mut t = 0;
@@ -118,7 +118,7 @@ fn less(a: u64, b: u64) -> u64
 
 // The last line of train k.
 fn last_line(text: &mut [u8], at: usize, k: u64, rest: u64) -> usize
-    ensures { λ r. ⌜ Wrote (now (text .entry)) at (lastLine k rest) r (now (text .exit)) ⌝ }
+    ensures { λ r. ⌜ Put (now (text .entry)) at (lastLine k rest) r (now (text .exit)) ⌝ }
 {
     let a = put_number(text, at, k, b' ');
     let b = put(text, a, b'-');
@@ -136,7 +136,7 @@ fn train_lines(
     weights: &[u64],
 ) -> usize
     requires { ⌜ (at ≤ length (now text)) × (k < 8) × (last ≤ 719) ⌝ }
-    ensures { λ r. ⌜ Wrote (now (text .entry)) at (linesOf whole last (now (weights .entry)) k) r (now (text .exit)) ⌝ }
+    ensures { λ r. ⌜ Put (now (text .entry)) at (linesOf whole last (now (weights .entry)) k) r (now (text .exit)) ⌝ }
 {
     let rest = not_arrived(whole, k, last, weights);
     let r = minute_lines(text, at, k, last, weights);
@@ -156,7 +156,7 @@ pub fn whole_weight(n: usize) -> u64
 
 // The first line.
 fn first_line(text: &mut [u8], whole: u64) -> usize
-    ensures { λ r. ⌜ Wrote (now (text .entry)) 0 (firstLine whole) r (now (text .exit)) ⌝ }
+    ensures { λ r. ⌜ Put (now (text .entry)) 0 (firstLine whole) r (now (text .exit)) ⌝ }
 {
     let r = put_bytes(text, 0, b"total ");
     put_number(text, r, whole, b'\n')
@@ -165,7 +165,7 @@ fn first_line(text: &mut [u8], whole: u64) -> usize
 // Writes the listing of `trains` trains up to minute `last` to the start of text, clears the rest, and returns the number of bytes.
 pub fn write(trains: usize, last: usize, weights: &[u64], text: &mut [u8]) -> usize
     requires { ⌜ (trains ≤ 8) × (last ≤ 719) ⌝ }
-    ensures { λ r. ⌜ Wrote (filled (length (now (text .entry))) [] (now (text .entry))) 0 (textFrom trains last (now (weights .entry))) r (now (text .exit)) ⌝ }
+    ensures { λ r. ⌜ Put (filled (length (now (text .entry))) [] (now (text .entry))) 0 (textFrom trains last (now (weights .entry))) r (now (text .exit)) ⌝ }
     ensures { λ r. ⌜ Prints trains last (now (weights .entry)) (now (text .entry)) r (now (text .exit)) ⌝ }
 {
     let n = text.len();
@@ -182,7 +182,7 @@ pub fn write(trains: usize, last: usize, weights: &[u64], text: &mut [u8]) -> us
 
 // Writes the line of a refusal to the start of text, and returns the number of bytes.
 pub fn refused_line(number: u64, file: u64, place: u64, text: &mut [u8]) -> usize
-    ensures { λ r. ⌜ Wrote (now (text .entry)) 0 (refusedLine (record { number = number; file = file; place = place })) r (now (text .exit)) ⌝ }
+    ensures { λ r. ⌜ Put (now (text .entry)) 0 (refusedLine (record { number = number; file = file; place = place })) r (now (text .exit)) ⌝ }
 {
     let a = put_bytes(text, 0, b"refused ");
     let b = put_number(text, a, number, b' ');

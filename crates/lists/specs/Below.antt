@@ -1,10 +1,11 @@
--- Laws of `span` and `below`: what holds of every number in a row, one number among them, and the numbers below n as a set.
+-- Laws of `span` and `below`: one number more, what holds of every number in a row, one number among them, and the numbers below n as a set.
 -- Each is shown by induction on how many there are. Assumes nothing.
 use mathlib.Core.Path.{subst, _≡_, refl, sym, ap, ap₂, _∙_}
-use mathlib.Core.Bool.{Bool, true, false, _||_, or-assoc, or-true, or-false}
+use mathlib.Core.Bool.{Bool, true, false, _||_, or-true, or-false}
 use mathlib.Core.List.{List, [], _∷_, _++_, map, append-nil}
 use Prim.Native.Nat.{ℕ, zero, suc, _+_, _≤_, _<_}
 use native.Mathlib.Nat.{not-suc-le-zero, le-of-suc-le-suc, add-zero, zero-add}
+use native.Mathlib.Numerals.{add-one}
 use native.Mathlib.Omega.{arith}
 use lib.ListN.{length, getD}
 use lib.Dec.{eqb, ltb}
@@ -20,6 +21,27 @@ pub length-span : (n k : ℕ) → length (span n k) ≡ n
 length-span zero k = refl
 length-span (suc n) k = omega (arith, length-span n (suc k))
 
+-- m numbers in a row and then n more
+pub span-append : (m n k : ℕ) → span (m + n) k ≡ span m k ++ span n (m + k)
+span-append zero n k =
+    let all : zero + n ≡ n = omega arith in
+    let at : k ≡ zero + k = omega arith in
+    ap (λ (i : ℕ). span i k) all ∙ ap (span n) at
+span-append (suc m) n k =
+    let all : suc m + n ≡ suc (m + n) = omega arith in
+    let at : m + suc k ≡ suc m + k = omega arith in
+    ap (λ (i : ℕ). span i k) all ∙ ap (λ (l : List ℕ). k ∷ l) (span-append m n (suc k) ∙ ap (λ (i : ℕ). span m (suc k) ++ span n i) at)
+
+-- one number more stands at the end
+pub span-last : (n k : ℕ) → span (suc n) k ≡ span n k ++ ((n + k) ∷ [])
+span-last n k = let all : suc n ≡ n + 1 = omega arith in ap (λ (i : ℕ). span i k) all ∙ span-append n 1 k
+
+pub below-last : (n : ℕ) → below (suc n) ≡ below n ++ (n ∷ [])
+below-last n = span-last n 0 ∙ ap (λ (i : ℕ). below n ++ (i ∷ [])) (add-zero n)
+
+pub below-more : (n : ℕ) → below (n + 1) ≡ below n ++ (n ∷ [])
+below-more n = ap below (add-one n) ∙ below-last n
+
 pub every-span : (P : ℕ → Type 0) (n i : ℕ) → ((k : ℕ) → k < n + i → P k) → Every P (span n i)
 every-span P zero i h = tt
 every-span P (suc n) i h = (h i (omega arith), every-span P n (suc i) (λ k l. h k (omega arith)))
@@ -28,6 +50,21 @@ pub every-below : (n : ℕ) → Every (λ k. k < n) (below n)
 every-below n = every-span (λ k. k < n) n 0 (λ k h. omega arith)
 
 -- ---- what is made of each number in a row
+
+module _ {ℓ} {A : Type ℓ} (f : ℕ → List A) where
+  -- one number more
+  pub each-below-more : (n : ℕ) → each f (below (n + 1)) ≡ each f (below n) ++ f n
+  each-below-more n =
+      ap (each f) (below-more n) ∙ each-append f (below n) (n ∷ []) ∙ ap (λ (l : List A). each f (below n) ++ l) (append-nil (f n))
+
+  -- numbers from the next one on
+  pub each-span-next : (n k : ℕ) → each f (span n (suc k)) ≡ each (λ i. f (suc i)) (span n k)
+  each-span-next zero k = refl
+  each-span-next (suc n) k = ap (λ (z : List A). f (suc k) ++ z) (each-span-next n (suc k))
+
+-- what is made alike of each number below n
+pub each-below-same {ℓ} : {A : Type ℓ} (f g : ℕ → List A) (n : ℕ) → ((i : ℕ) → i < n → f i ≡ g i) → each f (below n) ≡ each g (below n)
+each-below-same f g n h = each-every (λ i. i < n) f g h (below n) (every-below n)
 
 module _ {ℓ} {A : Type ℓ} (f : ℕ → A) where
   pub length-span-map : (n i : ℕ) → length (map f (span n i)) ≡ n
@@ -131,15 +168,9 @@ sum-places f (a ∷ l) z =
 
 -- ---- a test of the numbers below n
 
-any-span : (f : ℕ → Bool) (n k : ℕ) → any f (span (suc n) k) ≡ (any f (span n k) || f (k + n))
-any-span f zero k = or-false (f k) ∙ ap f (omega arith)
-any-span f (suc n) k =
-    ap (λ (b : Bool). f k || b) (any-span f n (suc k) ∙ ap (λ (i : ℕ). any f (span n (suc k)) || f i) (omega arith))
-    ∙ sym (or-assoc (f k) (any f (span n (suc k))) (f (k + suc n)))
-
 -- the numbers below n + 1 are those below n, and n
 pub any-below : (f : ℕ → Bool) (n : ℕ) → any f (below (suc n)) ≡ (any f (below n) || f n)
-any-below f n = any-span f n 0 ∙ ap (λ (i : ℕ). any f (below n) || f i) (omega arith)
+any-below f n = ap (any f) (below-last n) ∙ any-append f (below n) (n ∷ []) ∙ ap (λ (b : Bool). any f (below n) || b) (or-false (f n))
 
 -- ---- the numbers below n, as a set
 

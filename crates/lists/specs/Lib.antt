@@ -3,3 +3,6 @@ pub mod Each
 pub mod Every
 pub mod Sums
 pub mod Below
+pub mod Writes
+pub mod Folds
+pub mod Kept

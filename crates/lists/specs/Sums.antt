@@ -64,6 +64,10 @@ pub sum-zero {ℓ} : {A : Type ℓ} (l : List A) → sum {A = A} (λ a. 0) l ≡
 sum-zero [] = refl
 sum-zero (a ∷ l) = omega (arith, sum-zero l)
 
+pub sum-ones : {A : Type 0} (l : List A) → sum {A = A} (λ a. 1) l ≡ length l
+sum-ones [] = refl
+sum-ones (a ∷ l) = omega (arith, sum-ones l)
+
 pub sum-swap {ℓ κ} : {A : Type ℓ} {B : Type κ} (f : A → B → ℕ) (s : List A) (t : List B) → sum (λ a. sum (f a) t) s ≡ sum (λ b. sum (λ a. f a b) s) t
 sum-swap f [] t = sym (sum-zero t)
 sum-swap f (a ∷ s) t = ap (λ (z : ℕ). sum (f a) t + z) (sum-swap f s t) ∙ sym (sum-plus (f a) (λ b. sum (λ c. f c b) s) t)

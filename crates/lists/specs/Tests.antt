@@ -21,6 +21,10 @@ pub and-true-first : (a b : Bool) → (a && b) ≡ true → a ≡ true
 and-true-first true b h = refl
 and-true-first false b h = h
 
+pub and-true-second : (a b : Bool) → (a && b) ≡ true → b ≡ true
+and-true-second true b h = h
+and-true-second false b h = absurd (false≢true h)
+
 pub or-false-first : (a b : Bool) → (a || b) ≡ false → a ≡ false
 or-false-first true b h = h
 or-false-first false b h = refl

@@ -1,13 +1,13 @@
 -- Laws of the first list as code writes it: byte by byte, delay by delay, train by train. Each turn of a loop adds one. Assumes nothing.
-use mathlib.Core.Path.{_≡_, refl, ap, sym, _∙_}
-use mathlib.Core.List.{List, [], _∷_, _++_, map, append-nil}
-use Prim.Native.Nat.{ℕ, zero, suc, _+_, _*_, _%_, _^_, _≤_, _<_}
+use mathlib.Core.Path.{_≡_, refl, ap, _∙_}
+use mathlib.Core.List.{List, [], _∷_, _++_, map}
+use Prim.Native.Nat.{ℕ, suc, _+_, _*_, _%_, _^_, _≤_, _<_}
 use native.Mathlib.Nat.{pow-succ', pow-le-pow-right, mod-eq-of-lt, one-mul}
 use native.Mathlib.Omega.{arith}
-use lib.ListN.{length, take, getD, set, replicate}
-use lib.Seq.{take-suc-set}
-use Rattle.rules.specs.Lists.{each, span, below}
-use Rattle.lists.specs.Each.{each-append, map-append}
+use lib.ListN.{getD}
+use Rattle.rules.specs.Lists.{each, below}
+use Rattle.lists.specs.Each.{map-append}
+use Rattle.lists.specs.Below.{below-more, each-below-more}
 use Rattle.rows.specs.Rows.{Row, words}
 use Rattle.rows.specs.Written.{words-append}
 use Rattle.opening.specs.First.{firstByte, firstBytes, firstRow}
@@ -41,14 +41,7 @@ byte-fits n c b h l k =
     let e : 256 ^ (n + 1) ≡ 256 * 256 ^ n = ap (λ (z : ℕ). 256 ^ z) (omega arith) ∙ pow-succ' 256 n in
     (omega arith, omega (arith, e, pow-le-pow-right {n = 256} (omega arith) {i = n + 1} {j = 8} (omega arith)))
 
--- ---- lists
-
-span-more : (n k : ℕ) → span (suc n) k ≡ span n k ++ ((k + n) ∷ [])
-span-more zero k = let e : k ≡ k + 0 = omega arith in ap (λ (z : ℕ). z ∷ []) e
-span-more (suc n) k = let e : suc k + n ≡ k + suc n = omega arith in ap (λ (l : List ℕ). k ∷ l) (span-more n (suc k) ∙ ap (λ (z : ℕ). span n (suc k) ++ (z ∷ [])) e)
-
-pub below-more : (n : ℕ) → below (n + 1) ≡ below n ++ (n ∷ [])
-below-more n = let e : n + 1 ≡ suc n = omega arith in ap below e ∙ span-more n 0 ∙ ap (λ (z : ℕ). below n ++ (z ∷ [])) (omega arith)
+-- ---- trains
 
 pub train-none : (T : List ℕ) (k : ℕ) → words (map (firstRow T k) (below 0)) ≡ []
 unfolding words
@@ -70,24 +63,4 @@ trains-none T = refl
 
 pub trains-more : (T : List ℕ) (n : ℕ) → words (firstTrains T (n + 1)) ≡ words (firstTrains T n) ++ words (map (firstRow T n) (below (getD T (40 + n) 0)))
 trains-more T n =
-    ap (λ (l : List ℕ). words (each f l)) (below-more n)
-    ∙ ap words (each-append f (below n) (n ∷ []) ∙ ap (λ (l : List Row). each f (below n) ++ l) (append-nil (f n)))
-    ∙ words-append (each f (below n)) (f n)
-  where
-    f : ℕ → List Row
-    f k = map (firstRow T k) (below (getD T (40 + k) 0))
-
--- ---- clearing
-
-pub clear-more : (i : ℕ) (l : List ℕ) → i < length l → take i l ≡ replicate {A = ℕ} i 0 → take (i + 1) (set l i 0) ≡ replicate {A = ℕ} (i + 1) 0
-clear-more i l h e =
-    let a : i + 1 ≡ suc i = omega arith in
-    ap (λ (z : ℕ). take z (set l i 0)) a
-    ∙ take-suc-set l i 0 h
-    ∙ ap (λ (z : List ℕ). z ++ (0 ∷ [])) e
-    ∙ zeros i
-    ∙ ap (λ (z : ℕ). replicate {A = ℕ} z 0) (sym a)
-  where
-    zeros : (n : ℕ) → replicate {A = ℕ} n 0 ++ (0 ∷ []) ≡ replicate {A = ℕ} (suc n) 0
-    zeros zero = refl
-    zeros (suc n) = ap (λ (z : List ℕ). 0 ∷ z) (zeros n)
+    ap words (each-below-more (λ k. map (firstRow T k) (below (getD T (40 + k) 0))) n) ∙ words-append (firstTrains T n) (map (firstRow T n) (below (getD T (40 + n) 0)))

@@ -21,8 +21,8 @@ use Rattle.lists.specs.Sums.{sum-less, sum-zero}
 use Rattle.simulation.specs.Places.{asked}
 use Rattle.simulation.specs.Orderly.{isStanding, Orderly, trainsOn-count}
 use Rattle.trace.specs.Trace.{first-none}
-use Rattle.passes.specs.Lists.{keep-none, keep-others, One, AtMostOne, at-most-one}
-use Rattle.passes.specs.Lists.AtMostOne.{none, single}
+use Rattle.lists.specs.Kept.{keep-none, keep-others, One, AtMostOne, at-most-one}
+use Rattle.lists.specs.Kept.AtMostOne.{none, single}
 use Rattle.passes.specs.Passes.{asksFor, admits, goes, passTrain}
 use Rattle.passes.specs.Visit.{asks-known}
 use Rattle.passes.specs.Walk.{asksFor-asks, asksFor-train, walkOne, walk, walkAll, walk-nobody}

@@ -16,10 +16,10 @@ use Rattle.sound.specs.Ways.{same-true, after-every}
 use Rattle.sound.specs.Trains.{Known, way-known}
 use Rattle.codes.specs.Codes.{placeOf}
 use Rattle.simulation.specs.Places.{asked}
-use Rattle.simulation.specs.Keeping.{items-start}
+use Rattle.trace.specs.Trace.{items-start}
 use Rattle.simulation.specs.Runs.{serveAll-nobody}
 use Rattle.passes.specs.Passes.{elementCodes}
-use Rattle.passes.specs.Lists.{fold-append, fold-map, fold-below}
+use Rattle.lists.specs.Folds.{fold-append, fold-map, fold-below}
 
 -- ---- who asks
 

@@ -1,4 +1,3 @@
-pub mod Lists
 pub mod Order
 pub mod Passes
 pub mod Marks

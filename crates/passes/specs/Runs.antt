@@ -14,7 +14,7 @@ use Rattle.passes.specs.Passes.{cleared, elementCodes, elementPasses, mi
 use Rattle.passes.specs.Marks.{Own}
 use Rattle.passes.specs.Walk.{walkAll}
 use Rattle.passes.specs.Visit.{visit-walks}
-use Rattle.passes.specs.Lists.{fold-keeps, fold-agree}
+use Rattle.lists.specs.Folds.{fold-keeps, fold-agree}
 use Rattle.passes.specs.Elements.{visits-codes}
 
 -- ---- what passes keep

@@ -6,14 +6,14 @@ use mathlib.Core.List.{List, [], _∷_, _++_, map}
 use Prim.Native.Nat.{ℕ, zero, suc, _+_, _-_, _*_, _/_, _%_, _^_, min, max, _≤_, _<_}
 use native.Mathlib.Nat.{pow-succ'}
 use native.Mathlib.Omega.{arith}
-use borrow.Author.Tests.{eq-eqb, eqb-true}
+use borrow.Author.Tests.{not-true, eq-eqb, eqb-true}
 use lib.Bits.{bitAnd, bitOr, and-step, or-step, or-comm, and-self, and-comm, and-zero-l, and-le-l, and-le-r, and-mod, and-shr, and-block}
 use lib.Dec.{eqb}
 use lib.Pow.{high, low}
 use Rattle.rules.specs.Lists.{one}
 use Rattle.lists.specs.Every.{Every, every-append, every-map, every-one}
 use Rattle.cut.specs.Cut.{fullOf, outs}
-use Rattle.cut.specs.Covers.{first-of, rest-of, outside-piece, next-common, next-low}
+use Rattle.cut.specs.Outside.{outsideBy, outs-whole}
 
 -- ---- bits in common
 
@@ -119,56 +119,6 @@ empty-and (suc n) q v h = rw (and-mod q v 8, and-shr q v 8) (go (eqb (v % 256) 0
 pub apart-part : (n q p m : ℕ) → Sub q p → fullOf n (bitAnd p m) ≡ false → fullOf n (bitAnd q m) ≡ false
 apart-part n q p m s h = ap (λ (x : ℕ). fullOf n (bitAnd x m)) (sym s) ∙ ap (fullOf n) (and-assoc q p m) ∙ empty-and n q (bitAnd p m) h
 
--- ---- the outside pieces, train by train
-
--- of n trains, by the piece p and what it met, m: the first train's, and those of the others with the first train's common set
-unfoldable outsideBy : ℕ → ℕ → ℕ → List ℕ
-outsideBy zero p m = []
-outsideBy (suc n) p m =
-    one (not (eqb (p % 256 - bitAnd (p % 256) (m % 256)) 0)) (p / 256 * 256 + (p % 256 - bitAnd (p % 256) (m % 256)))
-    ++ map (λ q. q * 256 + bitAnd (p % 256) (m % 256)) (outsideBy n (p / 256) (m / 256))
-
-one-map : (t : Bool) (o : ℕ) (F : ℕ → ℕ) (w : ℕ) (A L : List ℕ) → o ≡ F w → A ≡ map F L → one t o ++ A ≡ map F (one t w ++ L)
-one-map true o F w A L e g = rw (e, g)
-one-map false o F w A L e g = g
-
-map-after : (F G g : ℕ → ℕ) → ((q : ℕ) → F (g q) ≡ G q) → (L : List ℕ) → map G L ≡ map F (map g L)
-map-after F G g h [] = refl
-map-after F G g h (q ∷ L) = rw (h q, map-after F G g h L)
-
-outs-by : (n k pre p m : ℕ) → pre < 256 ^ k → outs n k (pre + 256 ^ k * bitAnd p m) (p - bitAnd p m) ≡ map (λ q. pre + 256 ^ k * q) (outsideBy n p m)
-unfolding outs outsideBy
-outs-by zero k pre p m low = refl
-outs-by (suc n) k pre p m low =
-    let P : ℕ = p / 256 in
-    let C : ℕ = bitAnd (p / 256) (m / 256) in
-    let x : ℕ = p % 256 in
-    let y : ℕ = bitAnd (p % 256) (m % 256) in
-    let yx : y ≤ x = and-le-l (p % 256) (m % 256) in
-    let CP : C ≤ P = and-le-l (p / 256) (m / 256) in
-    let e : bitAnd p m ≡ C * 256 + y = omega (arith, and-shr p m 8, and-mod p m 8) in
-    let d : p - bitAnd p m ≡ (P - C) * 256 + (x - y) = omega arith in
-    let whole : C + (P - C) ≡ P = omega arith in
-    rw (d, e, first-of (P - C) (x - y) (omega arith), rest-of (P - C) (x - y) (omega arith))
-    (one-map (not (eqb (x - y) 0)) _ (λ q. pre + 256 ^ k * q) (P * 256 + (x - y)) _ (map (λ q. q * 256 + y) (outsideBy n (p / 256) (m / 256)))
-    (outside-piece k pre C (P - C) y (x - y) low (omega arith) ∙ ap (λ (z : ℕ). pre + 256 ^ k * (z * 256 + (x - y))) whole)
-    (ap (λ (z : ℕ). outs n (suc k) z (P - C)) (next-common k pre C (P - C) y (x - y) low (omega arith) C)
-    ∙ outs-by n (suc k) (pre + 256 ^ k * y) (p / 256) (m / 256) (next-low k pre C (P - C) y (x - y) low (omega arith))
-    ∙ map-after (λ q. pre + 256 ^ k * q) (λ q. pre + 256 ^ k * y + 256 ^ suc k * q) (λ q. q * 256 + y)
-    (λ q. next-common k pre C (P - C) y (x - y) low (omega arith) q) (outsideBy n (p / 256) (m / 256))))
-
-outs-whole : (p m : ℕ) → outs 8 0 (bitAnd p m) (p - bitAnd p m) ≡ outsideBy 8 p m
-outs-whole p m =
-    ap (λ (c : ℕ). outs 8 0 c (p - bitAnd p m)) (sym (alone (bitAnd p m)))
-    ∙ outs-by 8 0 0 p m (omega arith) ∙ map-alone (outsideBy 8 p m)
-  where
-    alone : (x : ℕ) → 0 + 256 ^ 0 * x ≡ x
-    alone x = omega arith
-
-    map-alone : (L : List ℕ) → map (λ q. 0 + 256 ^ 0 * q) L ≡ L
-    map-alone [] = refl
-    map-alone (x ∷ L) = rw (alone x, map-alone L)
-
 -- ---- what an outside piece is
 
 pub record Outside (n p m o : ℕ) : Type 0 where
@@ -213,10 +163,6 @@ module _ (n p m : ℕ) where
     apart = apart-put q b (omega (arith, and-le-l a (m % 256))) (ap (λ (x : Bool). cond (eqb (bitAnd b (m % 256)) 0) false x) (h .apart) ∙ cond-false (eqb (bitAnd b (m % 256)) 0));
     full = λ f g. full-put q b (omega (arith, and-le-l a (m % 256))) (ap (λ (x : ℕ). eqb x 0) (sym (and-mod p m 8)) ∙ full-rest n (bitAnd p m) g .0) (h .full (full-rest n p f .1) (ap (fullOf n) (sym (and-shr p m 8)) ∙ full-rest n (bitAnd p m) g .1));
   }
-
-not-true : (t : Bool) → not t ≡ true → t ≡ false
-not-true true h = sym h
-not-true false h = refl
 
 outside-by : (n p m : ℕ) → Every (Outside n p m) (outsideBy n p m)
 unfolding outsideBy

@@ -34,11 +34,6 @@ rowsIn n l = rowsOf (take (n * 2) l)
 abbrev pub rowAt : List ℕ → ℕ → Row
 rowAt l i = row (getD l (i * 2) 0) (getD l (i * 2 + 1) 0)
 
--- the words L are written from the place w on and r is the next place; what does not fit is left out, and r is then the length
-pub record Put (out : List ℕ) (w : ℕ) (L : List ℕ) (r : ℕ) (out′ : List ℕ) : Type 0 where
-  pub place : r ≡ min (w + length L) (length out)
-  pub list : out′ ≡ sets out w L
-
 -- the first r words of the lent ones are the list L
 pub record Begins (L : List ℕ) (r : ℕ) (out : List ℕ) : Type 0 where
   pub few : r ≤ length out

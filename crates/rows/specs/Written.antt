@@ -13,8 +13,8 @@ use lib.Seq.{sets, slice, length-sets, sets-eq, set-out, take-suc, take-take, ta
 use Rattle.rules.specs.Lists.{one, each}
 use Rattle.lists.specs.Each.{each-append, map-append}
 use Rattle.lists.specs.Every.{Every, every-left, every-right}
-use Rattle.cut.specs.Lists.{sets-append}
-use Rattle.rows.specs.Rows.{Row, row, rowsOf, words, rowsIn, rowAt, Put, meetsOf, metOf, heldRows, enteredRows}
+use Rattle.lists.specs.Writes.{Put, put-full, put-length, put-join}
+use Rattle.rows.specs.Rows.{Row, row, rowsOf, words, rowsIn, rowAt, meetsOf, metOf, heldRows, enteredRows}
 
 -- ---- rows and words
 
@@ -46,10 +46,6 @@ rowsOf-append j [] b h = refl
 rowsOf-append j (s ∷ []) b h = absurd (omega arith)
 rowsOf-append zero (s ∷ (c ∷ a)) b h = absurd (omega arith)
 rowsOf-append (suc j) (s ∷ (c ∷ a)) b h = ap (λ (l : List Row). row s c ∷ l) (rowsOf-append j a b (omega arith))
-
-pub rowsIn-none : (l : List ℕ) → rowsIn 0 l ≡ []
-unfolding rowsOf
-rowsIn-none l = refl
 
 pub rowsIn-words : (n : ℕ) (l : List ℕ) → n * 2 ≤ length l → words (rowsIn n l) ≡ take (n * 2) l
 rowsIn-words n l h = words-rowsOf n (take (n * 2) l) (length-take-le (n * 2) l h)
@@ -107,49 +103,6 @@ row-of P i n l h k e =
 
 -- ---- what is written
 
-pub sets-out : (vs l : List ℕ) (i : ℕ) → length l ≤ i → sets l i vs ≡ l
-sets-out [] l i h = refl
-sets-out (v ∷ vs) l i h = ap (λ (z : List ℕ). sets z (suc i) vs) (set-out l i v h) ∙ sets-out vs l (suc i) (omega arith)
-
-pub put-none : (l : List ℕ) (w : ℕ) → w ≤ length l → Put l w [] w l
-put-none l w h = record { place = omega arith; list = refl }
-
-pub put-one : (l : List ℕ) (w x : ℕ) → w < length l → Put l w (x ∷ []) (w + 1) (set l w x)
-put-one l w x h = record { place = omega arith; list = refl }
-
-pub put-full : (l : List ℕ) (w : ℕ) (L : List ℕ) → w ≡ length l → Put l w L w l
-put-full l w L h = record { place = omega arith; list = sym (sets-out L l w (omega arith)) }
-
-pub put-length : {l : List ℕ} {w : ℕ} {L : List ℕ} {r : ℕ} {l′ : List ℕ} → Put l w L r l′ → length l′ ≡ length l
-put-length {l} {w} {L} h = ap length (h .list) ∙ length-sets l w L
-
-pub put-fits : {l : List ℕ} {w : ℕ} {L : List ℕ} {r : ℕ} {l′ : List ℕ} → Put l w L r l′ → r ≤ length l′
-put-fits {l} {w} {L} h = omega (arith, put-length h, h .place)
-
--- where the first did not fit, nothing of the second is written
-join-by : (l a b : List ℕ) (w r : ℕ) → r ≡ min (w + length a) (length l) → Dec (w + length a ≤ length l) → sets (sets l w a) r b ≡ sets l w (a ++ b)
-join-by l a b w r h (yes fits) = ap (λ (k : ℕ). sets (sets l w a) k b) (omega arith) ∙ sets-append a b l w
-join-by l a b w r h (no over) =
-    sets-out b (sets l w a) r (omega (arith, length-sets l w a))
-    ∙ sym (sets-out b (sets l w a) (w + length a) (omega (arith, length-sets l w a)))
-    ∙ sets-append a b l w
-
-pub put-join : {l : List ℕ} {w : ℕ} {a : List ℕ} {r : ℕ} {k : List ℕ} {b : List ℕ} {z : ℕ} {m : List ℕ} → Put l w a r k → Put k r b z m → Put l w (a ++ b) z m
-put-join {l} {w} {a} {r} {k} {b} {z} {m} f g = record {
-  place = omega (arith, put-length f, length-append a b, g .place, f .place);
-  list = g .list ∙ ap (λ (e : List ℕ). sets e r b) (f .list) ∙ join-by l a b w r (f .place) (decLe _ _);
-}
-
--- what is written and fits stands after what stood there
-pub put-taken : {l : List ℕ} {w : ℕ} {L : List ℕ} {r : ℕ} {l′ : List ℕ} → Put l w L r l′ → w + length L ≤ length l → take r l′ ≡ take w l ++ L
-put-taken {l} {w} {L} {r} {l′} h fits =
-    let e : r ≡ length (take w l ++ L) = omega (arith, h .place, length-append (take w l) L, length-take-le w l (omega arith)) in
-    rw (h .list, sets-eq L l w fits, e) (take-append-seam (take w l ++ L) (drop (w + length L) l))
-
--- the first words are the list L where it is shorter than the lent memory; else r is its length
-pub put-start : {l : List ℕ} {L : List ℕ} {r : ℕ} {l′ : List ℕ} → Put l 0 L r l′ → length L ≤ length l → take r l′ ≡ L
-put-start {l} {L} {r} {l′} h fits = put-taken h (omega arith)
-
 -- a word at the place after the list counts or does not
 pub begins-more : (out L : List ℕ) (w c : ℕ) (b : Bool) → w < length out → take w out ≡ L → take (w + length (one b c)) (set out w c) ≡ L ++ one b c
 begins-more out L w c true h k =
@@ -205,7 +158,7 @@ met-passed e k i l long away =
 pub put-filled : {l : List ℕ} {d : ℕ} {r : ℕ} {l′ : List ℕ} (a m z : ℕ) (from : List ℕ) → a ≤ m → m ≤ z → z ≤ length from → Put l d (slice a m from) r l′ → r ≡ length l
     → Put l d (slice a z from) r l′
 put-filled {l} {d} {r} {l′} a m z from h k long f e =
-    subst (λ (x : List ℕ). Put l d x r l′) (sym (slice-split a m z from h k long)) (put-join f (put-full l′ r (slice m z from) (e ∙ sym (put-length f))))
+    subst (λ (x : List ℕ). Put l d x r l′) (sym (slice-split a m z from h k long)) (put-join f (put-full l′ r (slice m z from) r (omega (arith, e, put-length f)) (e ∙ sym (put-length f))))
 
 pub take-more : (i : ℕ) (l : List ℕ) → i < length l → take (i + 1) l ≡ take i l ++ (getD l i 0 ∷ [])
 take-more i l h = let e : i + 1 ≡ suc i = omega arith in ap (λ (z : ℕ). take z l) e ∙ take-suc l i 0 h

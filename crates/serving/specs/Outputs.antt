@@ -10,11 +10,11 @@ use lib.Bits.{bitOr, and-self}
 use lib.Seq.{sets, length-sets}
 use Rattle.cut.specs.declared.Pieces.{Pieces}
 use Rattle.cut.specs.Cut.{Part, heldOf, enteringOf, Room, fitting, Wrote}
-use Rattle.cut.specs.Lists.{sets-append}
 use Rattle.cut.specs.Written.{length-apart, wrote-entering-length, fitting-count, fitting-all}
 use Rattle.quiet.specs.Parts.{Sub, sub-or-left, sub-or-right}
-use Rattle.rows.specs.Rows.{row, words, Put, heldRows}
-use Rattle.rows.specs.Written.{words-length, put-none, put-join, put-length, put-fits, put-start}
+use Rattle.lists.specs.Writes.{sets-append, Put, put-none, put-join, put-length, put-fits, put-start}
+use Rattle.rows.specs.Rows.{row, words, heldRows}
+use Rattle.rows.specs.Written.{words-length}
 use Rattle.serving.specs.Pass.{Came, Two, Stays, Went}
 use Rattle.serving.specs.Pass.Stays.{whole, moved-on}
 use Rattle.serving.specs.Pass.Went.{as-it-is, moves}

@@ -7,7 +7,8 @@ use lib.ListN.{length, take, getD}
 use lib.Seq.{sets}
 use Rattle.rules.specs.Lists.{each}
 use Rattle.cut.specs.Cut.{carried, heldOf, enteringOf}
-use Rattle.rows.specs.Rows.{Row, words, Put, heldRows, enteredRows}
+use Rattle.lists.specs.Writes.{Put}
+use Rattle.rows.specs.Rows.{Row, words, heldRows, enteredRows}
 use Rattle.quiet.specs.Parts.{Sub}
 use Rattle.asking.specs.declared.Job.{Job}
 use Rattle.asking.specs.Ask.{metFor, askingOf, stirredOf}

@@ -12,8 +12,9 @@ use Rattle.lists.specs.Each.{each-append}
 use Rattle.lists.specs.Every.{each-every, Every, every-append, every-more}
 use Rattle.cut.specs.Cut.{carried, heldOf, enteringOf}
 use Rattle.quiet.specs.Parts.{Sub, sub-trans}
-use Rattle.rows.specs.Rows.{Row, row, words, rowsOf, rowsIn, rowAt, Put, Begins, heldRows, enteredRows}
-use Rattle.rows.specs.Written.{words-append, words-length, rowsIn-words, words-rowsOf, rowsIn-length, rowsIn-more, each-more, rows-split, put-join, put-length, put-start, put-taken}
+use Rattle.lists.specs.Writes.{Put, put-join, put-length, put-start, put-taken}
+use Rattle.rows.specs.Rows.{Row, row, words, rowsOf, rowsIn, rowAt, Begins, heldRows, enteredRows}
+use Rattle.rows.specs.Written.{words-append, words-length, rowsIn-words, words-rowsOf, rowsIn-length, rowsIn-more, each-more, rows-split}
 use Rattle.asking.specs.declared.Job.{Job}
 use Rattle.serving.specs.declared.Ends.{Ends}
 use Rattle.asking.specs.Ask.{metFor}

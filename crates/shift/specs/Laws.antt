@@ -13,7 +13,7 @@ use Rattle.rules.specs.Joint.{joint}
 use Rattle.rules.specs.Listing.{decimal, line, refusedWord, refusedLine}
 use Rattle.rules.specs.Calls.{Run, runTo, wholeRun, textOf, filled, Lent, lent, listingCall}
 use Rattle.sound.specs.Places.{files-told}
-use Rattle.images.specs.Writing.{Wrote}
+use Rattle.lists.specs.Writes.{Put}
 use Rattle.listing.specs.Suffices.{decimal-most}
 use Rattle.desk.specs.declared.Answer.{Answer}
 use Rattle.desk.specs.Answers.{answerOf, lentThree, GivesText}
@@ -85,7 +85,7 @@ module _ (cs bk rows weights text : List ℕ) {a : Answer} {rows′ weights′ t
 
   -- refused, the line that is written is the refusal's
   pub prints-line : (a .refusal ≡ 0 → ⊥) → length text′ ≡ 32768 → {r : ℕ} {text″ : List ℕ}
-      → Wrote text′ 0 (refusedLine (record { number = a .refusal; file = a .file; place = a .place })) r text″ → Prints cs bk r text″
+      → Put text′ 0 (refusedLine (record { number = a .refusal; file = a .file; place = a .place })) r text″ → Prints cs bk r text″
   unfolding printed
   prints-line some same {r} {text″} w = go (wholeRun cs bk) refl answer-is
     where

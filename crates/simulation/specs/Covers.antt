@@ -8,6 +8,7 @@ use native.Mathlib.Omega.{arith}
 use lib.ListN.{length, getD, set}
 use Rattle.rules.specs.Lists.{one, each, any, has}
 use Rattle.rules.specs.Joint.{Cover, common, without, isEmpty, inside, apart, outsides, covers}
+use Rattle.lists.specs.Tests.{and-true-first, and-true-second}
 use Rattle.lists.specs.Each.{each-append, each-map, each-none}
 use Rattle.lists.specs.Every.{Every, every-append, every-map, every-one, has-keep}
 
@@ -77,29 +78,21 @@ apart-covers (d ∷ x) (s ∷ p) h = go (isEmpty s) refl h (apart-covers x p)
 
 -- ---- a choice that is covered
 
-and-left : (a b : Bool) → (a && b) ≡ true → a ≡ true
-and-left true b h = refl
-and-left false b h = h
-
-and-right : (a b : Bool) → (a && b) ≡ true → b ≡ true
-and-right true b h = h
-and-right false b h = absurd (false≢true h)
-
 -- it has a delay for each set
 pub covers-length : (p : Cover) (x : List ℕ) → covers p x ≡ true → length p ≡ length x
 unfolding covers
 covers-length [] [] h = refl
 covers-length [] (d ∷ x) h = absurd (false≢true h)
 covers-length (s ∷ p) [] h = absurd (false≢true h)
-covers-length (s ∷ p) (d ∷ x) h = ap suc (covers-length p x (and-right (has s d) (covers p x) h))
+covers-length (s ∷ p) (d ∷ x) h = ap suc (covers-length p x (and-true-second (has s d) (covers p x) h))
 
 -- and each is in its set
 pub covers-at : (p : Cover) (x : List ℕ) → covers p x ≡ true → (k : ℕ) → k < length p → has (getD p k []) (getD x k 0) ≡ true
 unfolding covers
 covers-at [] x h k l = absurd (omega arith)
 covers-at (s ∷ p) [] h k l = absurd (false≢true h)
-covers-at (s ∷ p) (d ∷ x) h zero l = and-left (has s d) (covers p x) h
-covers-at (s ∷ p) (d ∷ x) h (suc k) l = covers-at p x (and-right (has s d) (covers p x) h) k (omega arith)
+covers-at (s ∷ p) (d ∷ x) h zero l = and-true-first (has s d) (covers p x) h
+covers-at (s ∷ p) (d ∷ x) h (suc k) l = covers-at p x (and-true-second (has s d) (covers p x) h) k (omega arith)
 
 -- that is all there is to it
 pub covers-by : (p : Cover) (x : List ℕ) → length p ≡ length x → ((k : ℕ) → k < length p → has (getD p k []) (getD x k 0) ≡ true) → covers p x ≡ true
@@ -114,9 +107,9 @@ pub covers-set : (p : Cover) (x : List ℕ) → covers p x ≡ true → (k : ℕ
 unfolding covers
 covers-set [] x h k l s = absurd (omega arith)
 covers-set (u ∷ p) [] h k l s = absurd (false≢true h)
-covers-set (u ∷ p) (d ∷ x) h zero l s = ap (λ (z : Bool). has s d && z) (and-right (has u d) (covers p x) h) ∙ and-true (has s d)
+covers-set (u ∷ p) (d ∷ x) h zero l s = ap (λ (z : Bool). has s d && z) (and-true-second (has u d) (covers p x) h) ∙ and-true (has s d)
 covers-set (u ∷ p) (d ∷ x) h (suc k) l s =
-    ap₂ (λ (y z : Bool). y && z) (and-left (has u d) (covers p x) h) (covers-set p x (and-right (has u d) (covers p x) h) k (omega arith) s)
+    ap₂ (λ (y z : Bool). y && z) (and-true-first (has u d) (covers p x) h) (covers-set p x (and-true-second (has u d) (covers p x) h) k (omega arith) s)
 
 -- ---- the outside pieces
 

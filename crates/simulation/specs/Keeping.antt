@@ -12,17 +12,13 @@ use Rattle.rules.specs.Refusals.{firstOf}
 use Rattle.rules.specs.Files.{Case}
 use Rattle.rules.specs.Turns.{Place, Mark, elements, ended, asks, Served, State, state, Row, row, items, quiet, Turn, Rules, next, serveOne, serveAll, visit, minute, minutes, runFrom}
 use Rattle.rules.specs.Turns.Turn.{nobody, somebody}
-use Rattle.lists.specs.Each.{map-append}
 use Rattle.lists.specs.Every.{Every, every-append, every-left, every-right, every-map, every-all}
+use Rattle.trace.specs.Trace.{items-quiet, items-start, items-append}
 use Rattle.simulation.specs.Askers.{Asking, Chosen, next-chosen}
 
 -- ---- the rows around an asker
 
 module _ {A : Type 0} where
-  pub items-quiet : (l : List A) → items (quiet l) ≡ l
-  items-quiet [] = refl
-  items-quiet (a ∷ l) = ap (λ (z : List A). a ∷ z) (items-quiet l)
-
   -- the rows after an asker is served
   abbrev pub servedRows : Served A → List (Row A) → List (Row A) → List (Row A)
   servedRows s b c = b ++ quiet (s .rows) ++ c ++ quiet (s .added)
@@ -32,14 +28,14 @@ module _ {A : Type 0} where
   servedList s b c = b ++ s .rows ++ c ++ s .added
 
   pub items-asker : (b : List (Row A)) (a : A) (c : List (Row A)) → items (b ++ (row a true ∷ c)) ≡ items b ++ (a ∷ items c)
-  items-asker b a c = map-append (λ r. r .item) b (row a true ∷ c)
+  items-asker b a c = items-append b (row a true ∷ c)
 
   pub items-served : (s : Served A) (b c : List (Row A)) → items (servedRows s b c) ≡ servedList s (items b) (items c)
   items-served s b c =
-      map-append (λ r. r .item) (b ++ quiet (s .rows) ++ c) (quiet (s .added))
+      items-append (b ++ quiet (s .rows) ++ c) (quiet (s .added))
       ∙ ap₂ _++_
-      (map-append (λ r. r .item) (b ++ quiet (s .rows)) c
-      ∙ ap (λ (z : List A). z ++ items c) (map-append (λ r. r .item) b (quiet (s .rows)) ∙ ap (λ (z : List A). items b ++ z) (items-quiet (s .rows))))
+      (items-append (b ++ quiet (s .rows)) c
+      ∙ ap (λ (z : List A). z ++ items c) (items-append b (quiet (s .rows)) ∙ ap (λ (z : List A). items b ++ z) (items-quiet (s .rows))))
       (items-quiet (s .added))
 
   -- rows that do not ask have whatever asking rows have
@@ -61,10 +57,6 @@ module _ {A : Type 0} where
       → Every (Asking R (λ m. asks C t e m ≡ true)) (map (λ a. row a (asks C t e (R .mark a))) l)
   asking-start C R t e l =
       every-map (λ a. Unit) (Asking R (λ m. asks C t e m ≡ true)) (λ a. row a (asks C t e (R .mark a))) (λ a u k. k) l (every-all (λ a. Unit) (λ a. tt) l)
-
-  pub items-start : (f : A → Bool) (l : List A) → items (map (λ a. row a (f a)) l) ≡ l
-  items-start f [] = refl
-  items-start f (a ∷ l) = ap (λ (z : List A). a ∷ z) (items-start f l)
 
 -- ---- the law
 

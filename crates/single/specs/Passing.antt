@@ -15,19 +15,14 @@ use Rattle.rules.specs.Files.{Case}
 use Rattle.rules.specs.Turns.{Place, same, Mark, stands, lastStation, asks, entered, arriving, State}
 use Rattle.rules.specs.Single.{minuteOf}
 use Rattle.lists.specs.Tests.{and-true-first}
-use Rattle.lists.specs.Sums.{sum-keep, sum-append, sum-each, sum-plus, sum-zero}
+use Rattle.lists.specs.Sums.{sum-keep, sum-append, sum-each, sum-plus, sum-zero, sum-ones}
 use Rattle.lists.specs.Every.{Every, every-each, every-all, every-one}
 use Rattle.lists.specs.Below.{sum-below-in}
-use Rattle.passes.specs.Lists.{sum-ones}
+use Rattle.lists.specs.Kept.{keep-passes}
 use Rattle.passes.specs.Passes.{asksFor, admits, goes, passTrain}
 use Rattle.passes.specs.Walk.{asksFor-train}
 use Rattle.single.specs.Sums.{sum-below, sum-change, orElse, minuteOf-append, minuteOf-same}
 use Rattle.single.specs.Shows.{standsIn, blockIn, endIn, blockTerm, standsSum, blocksSum, Shows}
-
--- those that are kept pass the test
-keep-passes : (test : Mark → Bool) (l : List Mark) → Every (λ m. test m ≡ true) (keep test l)
-keep-passes test l =
-    every-each (λ m. Unit) (λ m. test m ≡ true) (λ m. one (test m) m) (λ m u. every-one (λ a. test a ≡ true) (test m) m (λ q. q)) l (every-all (λ m. Unit) (λ m. tt) l)
 
 -- a sum of two parts, of which the first changes in one term
 regroup : (x s′ b′ s b o q q′ : ℕ) → x ≡ s′ + b′ → s′ + o ≡ s + q′ → q′ ≡ q → b′ ≡ b → x + o ≡ s + b + q

@@ -22,7 +22,7 @@ use Rattle.simulation.specs.Start.{first-orderly}
 use Rattle.codes.specs.Codes.{placeOf}
 use Rattle.codes.specs.Tables.{order, tables}
 use Rattle.passes.specs.Order.{order-known, order-length}
-use Rattle.passes.specs.Lists.{fold-map, fold-keeps}
+use Rattle.lists.specs.Folds.{fold-map, fold-keeps}
 use Rattle.passes.specs.Passes.{goes, passTrain, cleared, elementPasses, minutePasses, minutesPasses, singlePasses}
 use Rattle.passes.specs.Single.{InOrder, passTrain-orderly, cleared-orderly, arrival-passes}
 use Rattle.single.specs.Words.{runSize, orderIn, servedIn, elementIn, minuteIn, startIn, soughtIn, answerIn}

@@ -18,6 +18,7 @@ use Rattle.rules.specs.Single.{pairAt, firstArrival, waits, firstMarks}
 use Rattle.rules.specs.Calls.{choiceBroken}
 use Rattle.sound.specs.Facts.{Sound}
 use Rattle.lists.specs.Sums.{sum-map, sum-zero}
+use Rattle.lists.specs.Writes.{zeros-at}
 use Rattle.simulation.specs.Start.{choice-at}
 use Rattle.simulation.specs.Choices.{unbroken-choice}
 use Rattle.codes.specs.Codes.{placeOf}
@@ -28,11 +29,6 @@ use Rattle.single.specs.Looks.{look-delay}
 use Rattle.single.specs.Sums.{sum-below}
 use Rattle.single.specs.Shows.{minuteIn, standsIn, blockIn, blockTerm, blocksSum, Shows}
 use Rattle.single.specs.Asking.{few}
-
-zeros : (m i : ℕ) → getD (replicate {A = ℕ} m 0) i 0 ≡ 0
-zeros zero i = refl
-zeros (suc m) zero = refl
-zeros (suc m) (suc i) = zeros m i
 
 module _ (T x : List ℕ) where
   -- the due minute of a train of the choice
@@ -99,7 +95,7 @@ module _ (C : Case) (sound : Sound C) (x : List ℕ) (unbroken : choiceBroken C 
 
   first-none : (i : ℕ) → 16 ≤ i → getD w i 0 ≡ 0
   first-none i l =
-      begun-other (tables C) x n 0 i (replicate {A = ℕ} runSize 0) (λ k a b. (λ e. omega (arith, sound .few-trains), λ e. omega (arith, sound .few-trains))) ∙ zeros runSize i
+      begun-other (tables C) x n 0 i (replicate {A = ℕ} runSize 0) (λ k a b. (λ e. omega (arith, sound .few-trains), λ e. omega (arith, sound .few-trains))) ∙ zeros-at runSize i
 
   first-due : (k : ℕ) → k < n → dueIn (tables C) x k ≡ firstArrival (trainAt C k .stops) + pairAt C k (getD x k 0) .delay
   first-due k l =

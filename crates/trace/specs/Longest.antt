@@ -19,7 +19,7 @@ use Rattle.lists.specs.Tests.{or-true-second, or-brings, or-middle}
 use Rattle.lists.specs.Every.{any-append}
 use Rattle.lists.specs.Sums.{count-le, length-keep}
 use Rattle.lists.specs.Below.{any-below}
-use Rattle.trace.specs.Trace.{rowsAfter, listsOne, listsAll, visitLists, visitsLists, minuteLists, minutesLists, runLists, items-rows, Splits, next-splits, items-after}
+use Rattle.trace.specs.Trace.{rowsAfter, listsOne, listsAll, visitLists, visitsLists, minuteLists, minutesLists, runLists, items-start, Splits, next-splits, items-after}
 
 -- the list has more items than the room
 abbrev pub passes : {A : Type 0} → ℕ → List A → Bool
@@ -91,7 +91,7 @@ module _ {A : Type 0} (room : ℕ) where
     visit-longest : (t : ℕ) (e : Place) (s : State A) → Longest room (s .list) (visitLists C R t e s) (visit C R t e s .list)
     unfolding visit visitLists
     visit-longest t e s =
-        subst (λ (l : List A). Longest room l (visitLists C R t e s) (visit C R t e s .list)) (items-rows (λ a. asks C t e (R .mark a)) (s .list))
+        subst (λ (l : List A). Longest room l (visitLists C R t e s) (visit C R t e s .list)) (items-start (λ a. asks C t e (R .mark a)) (s .list))
         (serveAll-longest _ t e _ (s .arrived) (s .met))
 
     visits-longest : (t : ℕ) (es : List Place) (s : State A) → Longest room (s .list) (visitsLists C R t es s) (fold (visit C R t) es s .list)

@@ -58,15 +58,15 @@ module _ {A : Type 0} (C : Case) (R : Rules A) where
 -- ---- rows
 
 module _ {A : Type 0} where
-  items-quiet : (l : List A) → items (quiet l) ≡ l
+  pub items-quiet : (l : List A) → items (quiet l) ≡ l
   items-quiet [] = refl
   items-quiet (a ∷ l) = ap (λ (r : List A). a ∷ r) (items-quiet l)
 
-  pub items-rows : (f : A → Bool) (l : List A) → items (map (λ a. row a (f a)) l) ≡ l
-  items-rows f [] = refl
-  items-rows f (a ∷ l) = ap (λ (r : List A). a ∷ r) (items-rows f l)
+  pub items-start : (f : A → Bool) (l : List A) → items (map (λ a. row a (f a)) l) ≡ l
+  items-start f [] = refl
+  items-start f (a ∷ l) = ap (λ (r : List A). a ∷ r) (items-start f l)
 
-  items-append : (s t : List (Row A)) → items (s ++ t) ≡ items s ++ items t
+  pub items-append : (s t : List (Row A)) → items (s ++ t) ≡ items s ++ items t
   items-append s t = map-append (λ r. r .item) s t
 
 -- the asker stands in its row

@@ -14,7 +14,7 @@ use Rattle.simulation.specs.Parts.{Parts}
 use Rattle.simulation.specs.Serving.{Proper, pieces-proper, serve-covers}
 use Rattle.simulation.specs.Start.{first-proper}
 use Rattle.lists.specs.Every.{Every, every-append, every-left, every-right, every-keep}
-use Rattle.trace.specs.Trace.{rowsAfter, listsOne, listsAll, visitLists, visitsLists, minuteLists, minutesLists, runLists, items-rows, Splits, next-splits, items-after}
+use Rattle.trace.specs.Trace.{rowsAfter, listsOne, listsAll, visitLists, visitsLists, minuteLists, minutesLists, runLists, items-start, Splits, next-splits, items-after}
 
 -- each item of the parts of a serving has the property
 pub record ServedAll {A : Type 0} (p : A → Type 0) (s : Served A) : Type 0 where
@@ -65,7 +65,7 @@ module _ {A : Type 0} (C : Case) (R : Rules A) (p : A → Type 0) (keeps : Keeps
 
   visit-kept : (t : ℕ) (e : Place) (s : State A) → Every p (s .list) → Every p (s .arrived) → KeptAll p (visitLists C R t e s) (visit C R t e s)
   unfolding visit visitLists
-  visit-kept t e s h g = serveAll-kept _ t e _ (s .arrived) (s .met) (subst (Every p) (sym (items-rows (λ a. asks C t e (R .mark a)) (s .list))) h) g
+  visit-kept t e s h g = serveAll-kept _ t e _ (s .arrived) (s .met) (subst (Every p) (sym (items-start (λ a. asks C t e (R .mark a)) (s .list))) h) g
 
   visits-kept : (t : ℕ) (es : List Place) (s : State A) → Every p (s .list) → Every p (s .arrived) → KeptAll p (visitsLists C R t es s) (fold (visit C R t) es s)
   visits-kept t [] s h g = record { lists = tt; list = h; arrived = g }

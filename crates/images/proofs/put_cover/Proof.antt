@@ -2,7 +2,7 @@
 use native.Mathlib.Omega.{arith}
 use lib.ListN.{length-set}
 use borrow.Author.Needs.{needs}
-use Rattle.images.specs.Writing.{sets-eight}
+use Rattle.images.proofs.Laws.{sets-eight}
 use Rattle.images.specs.Rows.{coverBytes}
 use Rattle.images.proofs.put_cover.Statement.{statement}
 use Rattle.images.proofs.put_cover.Tie as tie

@@ -7,7 +7,7 @@ use lib.ListN.{length-set}
 use borrow.Author.Needs.{needs}
 use Rattle.codes.specs.Codes.{markOf}
 use Rattle.images.proofs.Laws.{marks-block}
-use Rattle.images.specs.Writing.{sets-eight}
+use Rattle.images.proofs.Laws.{sets-eight}
 use Rattle.images.specs.Rows.{markBytes}
 use Rattle.images.proofs.put_mark.Statement.{statement}
 use Rattle.images.proofs.put_mark.Tie as tie

@@ -5,7 +5,7 @@ use native.Mathlib.Omega.{arith}
 use native.Mathlib.Nat.{div-one}
 use lib.ListN.{length-set}
 use borrow.Author.Needs.{needs}
-use Rattle.images.specs.Writing.{sets-eight}
+use Rattle.images.proofs.Laws.{sets-eight}
 use Rattle.images.proofs.put_word.Statement.{statement}
 use Rattle.images.proofs.put_word.Tie as tie
 

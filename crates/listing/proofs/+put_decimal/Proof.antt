@@ -4,7 +4,7 @@ use native.Mathlib.Omega.{arith}
 use borrow.Author.Needs.{needs}
 use borrow.Fn.Kinds.{In}
 use borrow.Fn.PlainCycle.{Measures, is, falls, and}
-use Rattle.images.specs.Writing.{wrote-as, wrote-join}
+use Rattle.lists.specs.Writes.{put-as, put-join}
 use Rattle.listing.proofs.Laws.{decimal-one, decimal-more}
 use Rattle.listing.proofs.put_decimal.Reads as put-decimal
 use Rattle.listing.proofs.put_decimal.Kinds as put-decimal-kinds
@@ -40,7 +40,7 @@ put-decimal-same-length : (t : ℕ) → put-decimal-lts.Need-same-length (put-de
 put-decimal-same-length t c = search needs
 
 put-decimal-returns : (t : ℕ) → put-decimal-lts.Need-returns (put-decimal-claims t) (put-decimal-at t) put-decimal.Post
-put-decimal-returns t c = wrote-as (c .before .before .put .ensures) (decimal-one (c .before .before .before .before .before .before .args .v) (omega arith))
+put-decimal-returns t c = put-as (c .before .before .put .ensures) (decimal-one (c .before .before .before .before .before .before .args .v) (omega arith))
 
 put-decimal-put-decimal-requires : (t : ℕ) → put-decimal-lts.Need-put-decimal-requires (put-decimal-claims t) (put-decimal-at t) put-decimal.Post
 put-decimal-put-decimal-requires t c κs = (omega (arith, c .before .before .before .pre .0), tt)
@@ -61,7 +61,7 @@ put-decimal-returns-2 : (t : ℕ) → put-decimal-lts.Need-returns-2 (put-decima
 put-decimal-returns-2 t c =
     let back6 = c .before .before .before .before .before .before in
     let back10 = back6 .before .before .before .before in
-    wrote-as (wrote-join (back6 .put-decimal .ensures) (c .before .before .put2 .ensures)) (decimal-more (back10 .args .v) (omega arith) (omega arith))
+    put-as (put-join (back6 .put-decimal .ensures) (c .before .before .put2 .ensures)) (decimal-more (back10 .args .v) (omega arith) (omega arith))
 
 pub +put-decimal-spec : {M : Type 1} → statement M
 +put-decimal-spec = close μ-put-decimal λ t. put-decimal-lts.spec (put-decimal-claims t)

@@ -1,6 +1,6 @@
 -- `listing::first_line` meets its contract. The word, the number and the line feed are the line. Assumes nothing.
 use borrow.Author.Needs.{needs}
-use Rattle.images.specs.Writing.{wrote-as, wrote-join}
+use Rattle.lists.specs.Writes.{put-as, put-join}
 use Rattle.listing.proofs.Laws.{first-parts}
 use Rattle.listing.proofs.first_line.Statement.{statement}
 use Rattle.listing.proofs.first_line.Tie as tie
@@ -21,7 +21,7 @@ returns : tie.Need-returns
 returns c =
     let back6 = c .before .before .before .before .before .before in
     let back10 = back6 .before .before .before .before in
-    wrote-as (wrote-join (back6 .put-bytes .ensures) (c .before .before .put-number .ensures)) (first-parts (back10 .args .whole))
+    put-as (put-join (back6 .put-bytes .ensures) (c .before .before .put-number .ensures)) (first-parts (back10 .args .whole))
 
 pub first-line-spec : {M : Type 1} → statement M
 first-line-spec =

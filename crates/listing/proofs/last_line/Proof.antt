@@ -1,6 +1,6 @@
 -- `listing::last_line` meets its contract. The number, the dash and the weight are the line. Assumes nothing.
 use borrow.Author.Needs.{needs}
-use Rattle.images.specs.Writing.{wrote-as, wrote-join}
+use Rattle.lists.specs.Writes.{put-as, put-join}
 use Rattle.listing.proofs.Laws.{last-parts}
 use Rattle.listing.proofs.last_line.Statement.{statement}
 use Rattle.listing.proofs.last_line.Tie as tie
@@ -26,8 +26,8 @@ returns c =
     let back10 = back6 .before .before .before .before in
     let back14 = back10 .before .before .before .before in
     let back17 = back14 .before .before .before in
-    wrote-as
-    (wrote-join (wrote-join (wrote-join (back14 .put-number .ensures) (back10 .put .ensures)) (back6 .put2 .ensures)) (c .before .before .put-number2 .ensures))
+    put-as
+    (put-join (put-join (put-join (back14 .put-number .ensures) (back10 .put .ensures)) (back6 .put2 .ensures)) (c .before .before .put-number2 .ensures))
     (last-parts (back17 .args .k) (back17 .args .rest))
 
 pub last-line-spec : {M : Type 1} → statement M

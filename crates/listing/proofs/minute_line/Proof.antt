@@ -1,6 +1,6 @@
 -- `listing::minute_line` meets its contract. Without weight there is no line, and nothing is written; otherwise three numbers are the line. Assumes nothing.
 use borrow.Author.Needs.{needs}
-use Rattle.images.specs.Writing.{wrote-as, wrote-none, wrote-join}
+use Rattle.lists.specs.Writes.{put-as, put-none, put-join}
 use Rattle.listing.proofs.Laws.{minute-none, minute-some}
 use Rattle.listing.proofs.minute_line.Statement.{statement}
 use Rattle.listing.proofs.minute_line.Tie as tie
@@ -8,7 +8,7 @@ use Rattle.listing.proofs.minute_line.Tie as tie
 returns : tie.Need-returns
 returns c =
     let a = c .before .before .args in
-    wrote-as (wrote-none (a .text .now) (a .at) (c .before .before .pre)) (minute-none (a .k) (a .t) (a .w) (c .if1 .taken))
+    put-as (put-none (a .text .now) (a .at) (c .before .before .pre)) (minute-none (a .k) (a .t) (a .w) (c .if1 .taken))
 
 put-number-requires : tie.Need-put-number-requires
 put-number-requires c κs = search needs
@@ -28,8 +28,8 @@ returns-2 c =
     let back10 = back6 .before .before .before .before in
     let back12 = back10 .before .before in
     let back14 = back12 .before .before in
-    wrote-as
-    (wrote-join (wrote-join (back10 .put-number .ensures) (back6 .put-number2 .ensures)) (c .before .before .put-number3 .ensures))
+    put-as
+    (put-join (put-join (back10 .put-number .ensures) (back6 .put-number2 .ensures)) (c .before .before .put-number3 .ensures))
     (minute-some (back14 .args .k) (back14 .args .t) (back14 .args .w) (back12 .if1 .left))
 
 pub minute-line-spec : {M : Type 1} → statement M

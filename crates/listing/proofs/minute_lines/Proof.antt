@@ -5,14 +5,14 @@ use Prim.Native.Nat.{ℕ, _+_, _-_, _≤_}
 use native.Mathlib.Omega.{arith}
 use borrow.Author.Needs.{needs}
 use Rattle.rules.specs.Listing.{minuteLine}
-use Rattle.images.specs.Writing.{Wrote, wrote-as, wrote-none, wrote-join, wrote-length, wrote-fits}
+use Rattle.lists.specs.Writes.{Put, put-as, put-none, put-join, put-length, put-fits}
 use Rattle.listing.specs.Text.{minuteLines}
 use Rattle.listing.proofs.Laws.{minutes-none, minutes-more}
 use Rattle.listing.proofs.minute_lines.Statement.{statement}
 use Rattle.listing.proofs.minute_lines.Tie as tie
 
 abbrev Inv-loop : tie.InvT-loop
-Inv-loop text₀ at k last weights r₀ t₀ text r t = (t ≤ last + 1) × Wrote text₀ at (minuteLines weights k t) r text
+Inv-loop text₀ at k last weights r₀ t₀ text r t = (t ≤ last + 1) × Put text₀ at (minuteLines weights k t) r text
 
 abbrev μ-loop : tie.MeasureT-loop
 μ-loop text₀ at k last weights r₀ t₀ text r t = last + 1 - t
@@ -20,7 +20,7 @@ abbrev μ-loop : tie.MeasureT-loop
 loop-holds : tie.Need-loop-holds Inv-loop μ-loop
 loop-holds c =
     let a = c .before .before .args in
-    (omega arith, wrote-as (wrote-none (a .text .now) (a .at) (c .before .before .pre .0)) (minutes-none (a .weights .now) (a .k)))
+    (omega arith, put-as (put-none (a .text .now) (a .at) (c .before .before .pre .0)) (minutes-none (a .weights .now) (a .k)))
 
 mul-weight : tie.Need-mul-weight Inv-loop μ-loop
 mul-weight c = search needs
@@ -32,7 +32,7 @@ weight-requires : tie.Need-weight-requires Inv-loop μ-loop
 weight-requires c κs = search needs
 
 minute-line-requires : tie.Need-minute-line-requires Inv-loop μ-loop
-minute-line-requires c κs = wrote-fits (c .before .before .before .loop .inv .1)
+minute-line-requires c κs = put-fits (c .before .before .before .loop .inv .1)
 
 add-t : tie.Need-add-t Inv-loop μ-loop
 add-t c = search needs
@@ -48,18 +48,18 @@ loop-again c =
     let a = back9 .args in
     let t = back6 .loop .t in (
       omega arith,
-      wrote-as
-          (wrote-join (back6 .loop .inv .1) (c .before .before .minute-line .ensures))
+      put-as
+          (put-join (back6 .loop .inv .1) (c .before .before .minute-line .ensures))
           (ap (λ (w : ℕ). minuteLines (a .weights .now) (a .k) t ++ minuteLine (a .k) t w) (back4 .weight .ensures) ∙ minutes-more (a .weights .now) (a .k) t),
     )
 
 same-length : tie.Need-same-length Inv-loop μ-loop
-same-length c = wrote-length (c .before .loop .inv .1)
+same-length c = put-length (c .before .loop .inv .1)
 
 returns : tie.Need-returns Inv-loop μ-loop
 returns c =
     let n : c .before .loop .t ≡ c .before .before .before .before .args .last + 1 = omega arith in
-    wrote-as (c .before .loop .inv .1) (ap (minuteLines (c .before .before .before .before .args .weights .now) (c .before .before .before .before .args .k)) n)
+    put-as (c .before .loop .inv .1) (ap (minuteLines (c .before .before .before .before .args .weights .now) (c .before .before .before .before .args .k)) n)
 
 pub minute-lines-spec : {M : Type 1} → statement M
 minute-lines-spec =

@@ -1,7 +1,7 @@
 -- `listing::put` meets its contract. Where there is room the byte is stored, and otherwise nothing of it fits. Assumes nothing.
 use native.Mathlib.Omega.{arith}
 use borrow.Author.Needs.{needs}
-use Rattle.images.specs.Writing.{wrote-full}
+use Rattle.lists.specs.Writes.{put-full}
 use Rattle.listing.proofs.put.Statement.{statement}
 use Rattle.listing.proofs.put.Tie as tie
 
@@ -18,7 +18,7 @@ returns : tie.Need-returns
 returns c = search needs
 
 returns-2 : tie.Need-returns-2
-returns-2 c = wrote-full _ _ _ (omega arith)
+returns-2 c = put-full _ _ _ _ (omega arith) (omega arith)
 
 pub put-spec : {M : Type 1} → statement M
 put-spec = tie.close (tie.spec slice-write-text add-result same-length returns returns-2)

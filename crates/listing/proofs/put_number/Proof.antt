@@ -1,6 +1,6 @@
 -- `listing::put_number` meets its contract. The digits and then the byte are one writing of both. Assumes nothing.
 use borrow.Author.Needs.{needs}
-use Rattle.images.specs.Writing.{wrote-join}
+use Rattle.lists.specs.Writes.{put-join}
 use Rattle.listing.proofs.put_number.Statement.{statement}
 use Rattle.listing.proofs.put_number.Tie as tie
 
@@ -14,7 +14,7 @@ same-length : tie.Need-same-length
 same-length c = search needs
 
 returns : tie.Need-returns
-returns c = wrote-join (c .before .before .before .before .before .before .put-decimal .ensures) (c .before .before .put .ensures)
+returns c = put-join (c .before .before .before .before .before .before .put-decimal .ensures) (c .before .before .put .ensures)
 
 pub put-number-spec : {M : Type 1} → statement M
 put-number-spec = tie.close (tie.spec put-decimal-requires put-requires same-length returns)

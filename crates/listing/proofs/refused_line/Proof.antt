@@ -1,6 +1,6 @@
 -- `listing::refused_line` meets its contract. The word and three numbers are the line. Assumes nothing.
 use borrow.Author.Needs.{needs}
-use Rattle.images.specs.Writing.{wrote-as, wrote-join}
+use Rattle.lists.specs.Writes.{put-as, put-join}
 use Rattle.listing.proofs.Laws.{refused-parts}
 use Rattle.listing.proofs.refused_line.Statement.{statement}
 use Rattle.listing.proofs.refused_line.Tie as tie
@@ -29,8 +29,8 @@ returns c =
     let back10 = back6 .before .before .before .before in
     let back14 = back10 .before .before .before .before in
     let back18 = back14 .before .before .before .before in
-    wrote-as
-    (wrote-join (wrote-join (wrote-join (back14 .put-bytes .ensures) (back10 .put-number .ensures)) (back6 .put-number2 .ensures)) (c .before .before .put-number3 .ensures))
+    put-as
+    (put-join (put-join (put-join (back14 .put-bytes .ensures) (back10 .put-number .ensures)) (back6 .put-number2 .ensures)) (c .before .before .put-number3 .ensures))
     (refused-parts (back18 .args .number) (back18 .args .file) (back18 .args .place))
 
 pub refused-line-spec : {M : Type 1} → statement M

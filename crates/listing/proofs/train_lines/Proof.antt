@@ -1,6 +1,6 @@
 -- `listing::train_lines` meets its contract. The minutes' lines and then the last line are the train's. Assumes nothing.
 use borrow.Author.Needs.{needs}
-use Rattle.images.specs.Writing.{wrote-as, wrote-join}
+use Rattle.lists.specs.Writes.{put-as, put-join}
 use Rattle.listing.proofs.Laws.{lines-parts}
 use Rattle.listing.proofs.train_lines.Statement.{statement}
 use Rattle.listing.proofs.train_lines.Tie as tie
@@ -23,8 +23,8 @@ returns c =
     let back8 = back6 .before .before in
     let back11 = back8 .before .before .before in
     let a = back11 .args in
-    wrote-as
-    (wrote-join (back6 .minute-lines .ensures) (c .before .before .last-line .ensures))
+    put-as
+    (put-join (back6 .minute-lines .ensures) (c .before .before .last-line .ensures))
     (lines-parts (a .whole) (a .last) (a .weights .now) (a .k) (back8 .not-arrived .result) (back8 .not-arrived .ensures))
 
 pub train-lines-spec : {M : Type 1} → statement M

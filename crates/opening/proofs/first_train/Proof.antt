@@ -6,8 +6,8 @@ use Prim.Native.Nat.{_+_, _-_, _*_, _≤_}
 use native.Mathlib.Omega.{arith}
 use lib.ListN.{getD}
 use Rattle.rules.specs.Lists.{below}
-use Rattle.rows.specs.Rows.{words, Put}
-use Rattle.rows.specs.Written.{put-none, put-join, put-fits, put-length}
+use Rattle.lists.specs.Writes.{Put, put-none, put-join, put-fits, put-length}
+use Rattle.rows.specs.Rows.{words}
 use Rattle.opening.specs.First.{firstRow}
 use Rattle.opening.specs.Beginning.{train-none, train-more}
 use Rattle.opening.proofs.first_train.Statement.{statement}

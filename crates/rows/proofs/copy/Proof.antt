@@ -5,8 +5,8 @@ use Prim.Native.Nat.{_+_, _-_, _≤_}
 use native.Mathlib.Omega.{arith}
 use lib.ListN.{length, length-set}
 use lib.Seq.{slice, slice-empty, length-slice}
-use Rattle.rows.specs.Rows.{Put}
-use Rattle.rows.specs.Written.{put-none, put-one, put-join, put-fits, put-length, put-filled, slice-more}
+use Rattle.lists.specs.Writes.{Put, put-none, put-one, put-join, put-fits, put-length}
+use Rattle.rows.specs.Written.{put-filled, slice-more}
 use borrow.Author.Needs.{needs}
 use Rattle.rows.proofs.copy.Statement.{statement}
 use Rattle.rows.proofs.copy.Tie as tie

@@ -4,8 +4,9 @@ use mathlib.Core.Path.{_≡_}
 use Prim.Native.Nat.{_-_, _≤_}
 use native.Mathlib.Omega.{arith}
 use lib.ListN.{take}
-use Rattle.rows.specs.Rows.{Put, words, heldRows}
-use Rattle.rows.specs.Written.{put-none, put-join, put-fits, put-length, heldRows-more}
+use Rattle.lists.specs.Writes.{Put, put-none, put-join, put-fits, put-length}
+use Rattle.rows.specs.Rows.{words, heldRows}
+use Rattle.rows.specs.Written.{heldRows-more}
 use Rattle.rows.proofs.hold.Statement.{statement}
 use Rattle.rows.proofs.hold.Tie as tie
 use Rattle.rows.proofs.hold.Reads as reads

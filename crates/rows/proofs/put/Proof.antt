@@ -1,6 +1,6 @@
 -- `rows::put` meets its contract: past the end nothing is written. Assumes nothing.
 use native.Mathlib.Omega.{arith}
-use Rattle.rows.specs.Written.{put-full}
+use Rattle.lists.specs.Writes.{put-full}
 use borrow.Author.Needs.{needs}
 use Rattle.rows.proofs.put.Statement.{statement}
 use Rattle.rows.proofs.put.Tie as tie
@@ -23,7 +23,7 @@ returns : tie.Need-returns
 returns c = search needs
 
 returns-2 : tie.Need-returns-2
-returns-2 c = put-full _ _ _ (omega arith)
+returns-2 c = put-full _ _ _ _ (omega arith) (omega arith)
 
 pub put-spec : {M : Type 1} → statement M
 put-spec = tie.close (tie.spec mul-out slice-write-out add-result same-length returns returns-2)
