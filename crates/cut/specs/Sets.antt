@@ -1,15 +1,15 @@
 -- The bits of a set of delays: the common delays are the bits in common, and what a set loses is the difference.
 -- Two sets are gone through together, delay by delay: what stands before a delay never matters to those after it. Assumes nothing.
-use mathlib.Core.Path.{_≡_, refl, ap, sym, _∙_, subst}
-use mathlib.Core.Bool.{Bool, true, false, not, and-eq-true-iff}
+use mathlib.Core.Path.{_≡_, refl, ap, sym, _∙_}
+use mathlib.Core.Bool.{Bool, false, not}
 use mathlib.Core.List.{List, [], _∷_}
 use Prim.Native.Nat.{ℕ, zero, suc, _+_, _-_, _*_, _^_, _≤_, _<_}
 use native.Mathlib.Nat.{pow-succ', mul-assoc, add-mul, add-zero, zero-add, pow-suc}
 use native.Mathlib.Omega.{arith}
-use borrow.Author.Tests.{ltb-true, eqb-true, eqb-false, eq-eqb, ne-eqb}
+use borrow.Author.Tests.{eq-eqb, ne-eqb}
 use lib.Bits.{bitAnd, and-block, and-comm, and-le-l}
 use lib.Pow.{pow-pos}
-use lib.Dec.{eqb, ltb}
+use lib.Dec.{eqb}
 use Rattle.rules.specs.Lists.{keep, sum, has, span, below}
 use Rattle.rules.specs.Joint.{common, without, isEmpty}
 use Rattle.rules.specs.Calls.{setImage}

@@ -1,24 +1,23 @@
 -- The joint run in code, in the words of the steps: refusal 12, or rows that hold the list and words that hold the weights.
 -- A row's words are the same in the run and in its image, and each entry of the list is bounded. Assumes nothing.
-use mathlib.Core.Path.{_≡_, refl, sym, ap, ap₂, _∙_, subst}
+use mathlib.Core.Path.{_≡_, refl, sym, ap, _∙_, subst}
 use mathlib.Core.Bool.{Bool, true, false, cond, _||_}
 use mathlib.Core.List.{List, [], _∷_, _++_, map}
-use Prim.Native.Nat.{ℕ, zero, suc, _+_, _*_, _/_, _≤_, _<_}
+use Prim.Native.Nat.{ℕ, suc, _+_, _*_, _/_, _≤_, _<_}
 use native.Mathlib.Omega.{arith}
 use lib.ListN.{length, getD, take}
 use lib.Seq.{take-append-le}
 use Rattle.rules.specs.Lists.{each, any, below}
 use Rattle.rules.specs.Files.{Case, files}
-use Rattle.rules.specs.Turns.{State, Place}
-use Rattle.rules.specs.Turns.Place.{outside, station, track, gone}
-use Rattle.rules.specs.Joint.{Cover, Entry, firstList, joint}
+use Rattle.rules.specs.Turns.{State}
+use Rattle.rules.specs.Joint.{Entry, firstList, joint}
 use Rattle.sound.specs.Facts.{Sound}
 use Rattle.lists.specs.Every.{Every, every-more}
 use Rattle.simulation.specs.Simulation.{joint-proper}
 use Rattle.trace.specs.Longest.{passes}
 use Rattle.weights.specs.Room.{met-minutes, list-fits}
 use Rattle.passes.specs.Joint.{joint-passes}
-use Rattle.passes.specs.Bounds.{ByteDelays, Bounded, bounded-train, bounded-minute, joint-bounded}
+use Rattle.passes.specs.Bounds.{ByteDelays, Bounded, bounded-train, joint-bounded}
 use Rattle.codes.specs.Codes.{stateOf}
 use Rattle.cut.specs.Packed.{packed, Packable}
 use Rattle.rows.specs.Rows as rows

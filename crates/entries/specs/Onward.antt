@@ -1,13 +1,13 @@
 -- The tables of a sound case: planned minutes and codes fit their places, an element is next from one place of a train alone, and each train has a delay.
 -- All askers of a train for an element stand at the place before it on the train's way. Assumes nothing.
-use mathlib.Core.Path.{_≡_, refl, ap, sym, _∙_}
-use mathlib.Core.Bool.{Bool, true, false, _&&_}
+use mathlib.Core.Path.{_≡_, ap, sym, _∙_}
+use mathlib.Core.Bool.{Bool, true, _&&_}
 use mathlib.Core.List.{List, [], _∷_}
 use Prim.Native.Nat.{ℕ, _+_, _*_, _/_, _%_, _≤_, _<_}
 use native.Mathlib.Omega.{arith}
-use borrow.Author.Tests.{le-leb, eqb-true, eqb-false}
+use borrow.Author.Tests.{le-leb}
 use lib.ListN.{length, getD}
-use lib.Dec.{eqb, leb}
+use lib.Dec.{leb}
 use Rattle.rules.specs.Lists.{sum}
 use Rattle.rules.specs.Files.{Pair, Case}
 use Rattle.rules.specs.Turns.{Place, same, stands, Leg, way, ahead, headIs, asks}

@@ -2,7 +2,7 @@
 // Weights are words: that of train k in minute t stands at k * 720 + t.
 ghost use mathlib.Core.Path.{_≡_};
 ghost use mathlib.Core.List.{List};
-ghost use Prim.Native.Nat.{ℕ, _+_, _*_, _≤_, _<_};
+ghost use Prim.Native.Nat.{_+_, _*_, _≤_, _<_};
 ghost use Rattle.rules.specs.Files.{Case};
 ghost use Rattle.rules.specs.Joint.{Entry};
 ghost use Rattle.rules.specs.Figures.{figures, double};

@@ -5,7 +5,7 @@ ghost use Prim.Native.Nat.{_+_, _*_, _%_, _≤_, _<_};
 ghost use lib.ListN.{length, take};
 ghost use lib.Seq.{sets};
 ghost use Rattle.rules.specs.Lists.{each};
-ghost use Rattle.rules.specs.Turns.{kindOf, numberOf, State};
+ghost use Rattle.rules.specs.Turns.{kindOf, numberOf};
 ghost use Rattle.rules.specs.Joint.{Entry};
 ghost use Rattle.rules.specs.Calls.{bytes, filled, rowImage, Run, weightsImage};
 ghost use Rattle.codes.specs.Codes.{placeOf};

@@ -1,10 +1,9 @@
 // The listing's text: decimal numbers, lines, trains, and the line of a refusal.
 // Where the text is too short, what does not fit is left out, and the place after it is the text's length.
 ghost use mathlib.Core.Path.{_≡_};
-ghost use mathlib.Core.List.{List, [], _∷_, _++_};
+ghost use mathlib.Core.List.{[], _∷_, _++_};
 ghost use Prim.Native.Nat.{_+_, _-_, _*_, _^_, _≤_, _<_};
 ghost use lib.ListN.{length, getD};
-ghost use Rattle.rules.specs.Refusals.{Refusal};
 ghost use Rattle.rules.specs.Listing.{decimal, minuteLine, refusedLine};
 ghost use Rattle.rules.specs.Calls.{filled};
 ghost use Rattle.lists.specs.Writes.{Put};

@@ -1,13 +1,12 @@
 -- Closing up in place: the rows kept so far are the first ones, and those still to be looked at stand where they stood.
 -- A kept row is written no later than where it was read, so what is still to be read is unchanged. Assumes nothing.
 use mathlib.Core.Path.{_≡_, refl, ap, ap₂, sym, _∙_}
-use mathlib.Core.Bool.{Bool, true, false, not}
+use mathlib.Core.Bool.{true, false, not}
 use mathlib.Core.List.{List, [], _∷_, _++_}
 use Prim.Native.Nat.{ℕ, _+_, _*_, _≤_}
 use native.Mathlib.Omega.{arith}
 use lib.ListN.{length, take, drop, getD, set, length-set}
 use lib.Seq.{take-set-le, drop-set-lt, getD-drop, drop-drop, getD-set-same, getD-set-other}
-use Rattle.rules.specs.Lists.{one}
 use Rattle.rows.specs.Rows.{Row, row, rowsOf, rowsIn, rowAt, endedOf, sweptOf}
 use Rattle.rows.specs.Written.{rowsIn-more, each-taken, each-left}
 

@@ -3,13 +3,12 @@
 use mathlib.Core.Path.{_≡_, refl, ap, sym, _∙_, subst}
 use mathlib.Core.Bool.{Bool, true, false, not, cond}
 use mathlib.Core.List.{List, [], _∷_, _++_, map, append-nil, append-assoc}
-use Prim.Native.Nat.{ℕ, zero, suc, _+_, _-_, _*_, _/_, _%_, min, _≤_, _<_}
-use native.Mathlib.Decide.{decLe}
+use Prim.Native.Nat.{ℕ, zero, suc, _+_, _-_, _*_, _/_, _%_, _≤_, _<_}
 use native.Mathlib.Omega.{arith}
 use lib.Dec.{eqb}
 use borrow.Author.Tests.{eq-eqb, ne-eqb}
-use lib.ListN.{length, take, drop, getD, set, length-append, take-append-drop}
-use lib.Seq.{sets, slice, length-sets, sets-eq, set-out, take-suc, take-take, take-set-le, take-suc-set, length-slice, length-take-le, take-append-seam, drop-append-le}
+use lib.ListN.{length, take, drop, getD, set, take-append-drop}
+use lib.Seq.{slice, take-suc, take-take, take-set-le, take-suc-set, length-slice, length-take-le, drop-append-le}
 use Rattle.rules.specs.Lists.{one, each}
 use Rattle.lists.specs.Each.{each-append, map-append}
 use Rattle.lists.specs.Every.{Every, every-left, every-right}

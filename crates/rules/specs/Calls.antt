@@ -7,11 +7,11 @@ use Prim.Native.Nat.{ℕ, zero, suc, _+_, _-_, _*_, _/_, _%_, _^_}
 use lib.ListN.{length, getD, drop, replicate}
 use lib.Dec.{leb, ltb, eqb}
 use Rattle.rules.specs.Lists.{each, any, sum, below}
-use Rattle.rules.specs.Refusals.{Fault, number, Rule, _when_, verdict, Result, refuse, then, unless}
+use Rattle.rules.specs.Refusals.{number, Rule, _when_, verdict, Result, refuse, then, unless}
 use Rattle.rules.specs.Refusals.Fault.{tooShort, wrongChoice, noTrain, stopTooLate}
 use Rattle.rules.specs.Refusals.Result.{refused, answer}
-use Rattle.rules.specs.Files.{Head, Train, Pair, mostTrains, Case, files}
-use Rattle.rules.specs.Turns.{Place, kindOf, numberOf, Mark, State}
+use Rattle.rules.specs.Files.{mostTrains, Case, files}
+use Rattle.rules.specs.Turns.{kindOf, numberOf, State}
 use Rattle.rules.specs.Single.{arrival}
 use Rattle.rules.specs.Joint.{Cover, Entry, joint, weightAt}
 use Rattle.rules.specs.Listing.{listing}

@@ -1,12 +1,12 @@
 -- 01, "Listing and figures", the figures: punctuality, the three shares and the lateness of a train. Assumes nothing: these are definitions.
-use mathlib.Core.Bool.{Bool, true, false, cond}
-use mathlib.Core.List.{List, [], _∷_}
-use Prim.Native.Nat.{ℕ, zero, suc, _+_, _-_, _*_}
+use mathlib.Core.Bool.{Bool, cond}
+use mathlib.Core.List.{List}
+use Prim.Native.Nat.{ℕ, _+_, _-_, _*_}
 use lib.Dec.{leb, ltb, eqb}
 use lib.IntN.{pos}
 use lib.Ieee.{Float, div, binary64, ofInt}
-use Rattle.rules.specs.Lists.{keep, sum, below}
-use Rattle.rules.specs.Files.{Stop, Train, Case, lastOf}
+use Rattle.rules.specs.Lists.{keep, sum}
+use Rattle.rules.specs.Files.{Case, lastOf}
 use Rattle.rules.specs.Turns.{trainAt}
 use Rattle.rules.specs.Joint.{Entry, total, weightAt}
 use Rattle.rules.specs.Listing.{window, notArrived}

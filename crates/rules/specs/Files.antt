@@ -5,8 +5,8 @@ use mathlib.Core.List.{List, [], _∷_, _++_, map}
 use Prim.Native.Nat.{ℕ, zero, suc, _+_, _-_, _*_, _/_}
 use lib.ListN.{length, getD, take, drop}
 use lib.Dec.{leb, ltb, eqb}
-use Rattle.rules.specs.Lists.{one, each, keep, any, sum, span, below, has}
-use Rattle.rules.specs.Refusals.{Fault, number, Rule, _when_, verdict, Result, refuse, then, unless}
+use Rattle.rules.specs.Lists.{one, keep, any, sum, span, below, has}
+use Rattle.rules.specs.Refusals.{number, Rule, _when_, verdict, Result, refuse, then, unless}
 use Rattle.rules.specs.Refusals.Fault.{overrun, unknownTag, misplaced, wrongLength, wrongCount, outOfRange, wrongEnds, wrongPath, wrongTimes, wrongTable, noTable}
 use Rattle.rules.specs.Refusals.Result.{answer}
 

@@ -1,13 +1,13 @@
 -- 01, "The joint run": all choices of delays together, entry by entry. Assumes nothing: these are definitions.
-use mathlib.Core.Bool.{Bool, true, false, not, _&&_, _||_, cond}
+use mathlib.Core.Bool.{Bool, true, false, not, _&&_, cond}
 use mathlib.Core.List.{List, [], _∷_, _++_, map}
-use Prim.Native.Nat.{ℕ, zero, suc, _+_, _-_, _*_, _^_}
+use Prim.Native.Nat.{ℕ, suc, _+_, _*_, _^_}
 use lib.ListN.{length, getD, set}
 use lib.Dec.{leb, ltb, eqb}
 use Rattle.rules.specs.Lists.{one, each, keep, any, sum, below, has}
-use Rattle.rules.specs.Refusals.{Fault, Rule, _when_, verdict}
+use Rattle.rules.specs.Refusals.{_when_, verdict}
 use Rattle.rules.specs.Refusals.Fault.{noRoom, tooHeavy}
-use Rattle.rules.specs.Files.{Head, Stop, Train, Pair, Case}
+use Rattle.rules.specs.Files.{Case}
 use Rattle.rules.specs.Turns.{Place, same, Mark, capacity, entered, arriving, Served, served, State, Rules, runFrom}
 use Rattle.rules.specs.Turns.Place.{gone}
 use Rattle.rules.specs.Single.{pairAt, waits}

@@ -1,12 +1,12 @@
 -- 01, "Listing and figures", the listing: the lines that a program prints, as bytes. Assumes nothing: these are definitions.
-use mathlib.Core.Bool.{Bool, true, false, cond}
+use mathlib.Core.Bool.{cond}
 use mathlib.Core.List.{List, [], _∷_, _++_}
 use Prim.Native.Nat.{ℕ, zero, suc, _+_, _-_, _/_, _%_}
 use lib.ListN.{length}
-use lib.Dec.{ltb, eqb}
+use lib.Dec.{ltb}
 use Rattle.rules.specs.Lists.{each, sum, below}
 use Rattle.rules.specs.Refusals.{Refusal}
-use Rattle.rules.specs.Files.{Head, Train, Case}
+use Rattle.rules.specs.Files.{Case}
 use Rattle.rules.specs.Joint.{Entry, total, weightAt}
 
 -- decimal digits, the highest first, of a number below 10 to the n

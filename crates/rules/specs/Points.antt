@@ -1,21 +1,20 @@
 -- 01, "Shift example": the twelve points marked P, as one table of questions put to the definitions, and one theorem that each is answered so.
 -- It is proved by computing from the example's bytes. Assumes nothing.
 use mathlib.Core.Path.{_≡_, refl}
-use mathlib.Core.Bool.{Bool, true, false, cond}
-use mathlib.Core.List.{List, [], _∷_, _++_, map}
+use mathlib.Core.List.{List, [], _∷_, map}
 use mathlib.Core.Option.{Option, none, some}
-use Prim.Native.Nat.{ℕ, zero, suc, _-_, _/_, _%_}
+use Prim.Native.Nat.{ℕ, _-_, _/_, _%_}
 use lib.ListN.{length, drop}
 use lib.Dec.{eqb}
 use Rattle.rules.specs.Lists.{count}
-use Rattle.rules.specs.Refusals.{Refusal, Result}
+use Rattle.rules.specs.Refusals.{Result}
 use Rattle.rules.specs.Refusals.Result.{refused, answer}
 use Rattle.rules.specs.Files.{headOf, trackOf, stopOf, trainOf, pairOf, tableOf, known, inPlace, lengths, most, howMany, headRules, stationRules, unknown, leads, trackRules, pathBroken, timesBroken, trainRules, tableRules, bodyRules, fieldRules, more, endRules, readField, readFields, read, tablesOf, caseOf, files}
-use Rattle.rules.specs.Turns.{Mark, same, way, ahead, lastStation, elements, capacity, ended, asks, sooner, dueAgain, leaving, entered, arriving, State, next, serveAll, visit, minute, minutes, runFrom}
+use Rattle.rules.specs.Turns.{same, way, ahead, lastStation, elements, capacity, ended, asks, sooner, dueAgain, leaving, entered, arriving, next, serveAll, visit, minute, minutes, runFrom}
 use Rattle.rules.specs.Single.{waits, firstMarks, trainsOn, enters, serveTrain, singleRules, single, arrival}
-use Rattle.rules.specs.Joint.{common, without, inside, apart, outsides, choicesIn, whole, weightOf, weight, total, Entry, firstList, carry, meets, pieces, serveEntry, checkList, jointRules, joint, weightAt}
+use Rattle.rules.specs.Joint.{common, without, inside, apart, outsides, choicesIn, whole, weightOf, weight, total, firstList, carry, meets, pieces, serveEntry, checkList, jointRules, joint, weightAt}
 use Rattle.rules.specs.Listing.{decimal, notArrived, trainLines, listing}
-use Rattle.rules.specs.Calls.{choiceBroken, noSuchTrain, singleRun, Run, stoppedRun, wholeRun, textOf}
+use Rattle.rules.specs.Calls.{choiceBroken, noSuchTrain, singleRun, stoppedRun, wholeRun, textOf}
 
 -- the shift example with the last minute T, the room and the second weight
 unfoldable pub shift : ℕ → ℕ → ℕ → List ℕ

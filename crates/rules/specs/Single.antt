@@ -1,14 +1,14 @@
 -- 01, "The single run": one choice of delays, minute by minute from 0 to T. Assumes nothing: these are definitions.
-use mathlib.Core.Bool.{Bool, true, false, not, _&&_, _||_, cond}
-use mathlib.Core.List.{List, [], _∷_, _++_, map}
+use mathlib.Core.Bool.{Bool, _&&_, _||_, cond}
+use mathlib.Core.List.{List, [], _∷_, map}
 use mathlib.Core.Option.{Option, none, some}
-use Prim.Native.Nat.{ℕ, zero, suc, _+_, _*_}
+use Prim.Native.Nat.{ℕ, _+_}
 use lib.ListN.{length, getD}
-use lib.Dec.{leb, ltb, eqb}
-use Rattle.rules.specs.Lists.{one, each, keep, any, count, below}
-use Rattle.rules.specs.Files.{Head, Stop, Train, Pair, Case}
+use lib.Dec.{ltb, eqb}
+use Rattle.rules.specs.Lists.{any, count, below}
+use Rattle.rules.specs.Files.{Stop, Pair, Case}
 use Rattle.rules.specs.Turns.{Place, same, Mark, stands, trainAt, capacity, entered, arriving, Served, served, State, Rules, runFrom}
-use Rattle.rules.specs.Turns.Place.{outside, station, track, gone}
+use Rattle.rules.specs.Turns.Place.{outside, gone}
 
 -- a choice takes one pair from each train's table: it is the list of their indices, counted from 0
 abbrev pub pairAt : Case → ℕ → ℕ → Pair

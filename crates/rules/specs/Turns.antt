@@ -5,9 +5,9 @@ use mathlib.Core.List.{List, [], _∷_, _++_, map}
 use Prim.Native.Nat.{ℕ, zero, suc, _+_, _-_}
 use lib.ListN.{length, getD}
 use lib.Dec.{leb, ltb, eqb}
-use Rattle.rules.specs.Lists.{one, each, keep, any, fold, below}
+use Rattle.rules.specs.Lists.{one, keep, fold, below}
 use Rattle.rules.specs.Refusals.{firstOf}
-use Rattle.rules.specs.Files.{Head, Track, Stop, Train, Pair, Case, leads, lastOf}
+use Rattle.rules.specs.Files.{Track, Stop, Train, Case, leads, lastOf}
 
 -- ---- places and marks
 

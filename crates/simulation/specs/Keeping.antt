@@ -1,7 +1,7 @@
 -- What each serving and each end of blocks keeps, the whole run keeps: the law by which an invariant is lifted to a run, single or joint.
 -- The rows that ask are fixed beforehand and none is added, so each asker served does ask for the element. Assumes nothing.
 use mathlib.Core.Path.{_≡_, refl, sym, ap, ap₂, _∙_, subst}
-use mathlib.Core.Bool.{Bool, true, false, not, false≢true}
+use mathlib.Core.Bool.{true, false, not, false≢true}
 use mathlib.Core.List.{List, [], _∷_, _++_, map}
 use Prim.Native.Nat.{ℕ, zero, suc, _≤_}
 use native.Mathlib.Omega.{arith}

@@ -16,7 +16,7 @@ use Rattle.rules.specs.Turns.{Place, same, Mark, stands, lastStation, asks, ent
 use Rattle.rules.specs.Single.{minuteOf}
 use Rattle.lists.specs.Tests.{and-true-first}
 use Rattle.lists.specs.Sums.{sum-keep, sum-append, sum-each, sum-plus, sum-zero, sum-ones}
-use Rattle.lists.specs.Every.{Every, every-each, every-all, every-one}
+use Rattle.lists.specs.Every.{Every, every-each, every-one}
 use Rattle.lists.specs.Below.{sum-below-in}
 use Rattle.lists.specs.Kept.{keep-passes}
 use Rattle.passes.specs.Passes.{asksFor, admits, goes, passTrain}

@@ -1,6 +1,6 @@
 // The single run of one choice of delays on words: where each train is, when it is due, when it arrived, and what it blocks.
 ghost use mathlib.Core.Path.{_≡_};
-ghost use Prim.Native.Nat.{ℕ, suc, _+_, _*_, _≤_, _<_};
+ghost use Prim.Native.Nat.{suc, _+_, _*_, _≤_, _<_};
 ghost use lib.ListN.{getD};
 ghost use Rattle.single.specs.Runs.{Arrives};
 ghost use Rattle.single.specs.Words.{Small, wanted, holding, crowd, lets, leftIn, stoodIn, arrivedIn, enteredIn, servedIn, elementIn, minuteIn, nearestIn, freedIn, readyIn, nextIn, waitsIn, startIn, soughtIn, answerIn};

@@ -1,6 +1,6 @@
 -- What the runs may take from a sound case about a train's way: its places are known and all different, and its times are within the window.
 -- Each is by induction on the train's stops; of a train that is not there the way is empty. Assumes nothing.
-use mathlib.Core.Path.{_≡_, refl}
+use mathlib.Core.Path.{_≡_}
 use mathlib.Core.Bool.{Bool, true, false, _||_, cond, false≢true}
 use mathlib.Core.List.{List, [], _∷_}
 use Prim.Native.Nat.{ℕ, suc, _≤_, _<_}

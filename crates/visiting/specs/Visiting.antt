@@ -21,7 +21,6 @@ use Rattle.serving.specs.declared.Ends.{Ends}
 use Rattle.serving.specs.Pass.{holdBy, enterBy, coversBy, passBy, holdStirred, enterStirred, coversOf, passedOf, stirredCovers, stirredPass, Went, Passed}
 use Rattle.serving.specs.Passing.{pass-same, covers-same, went-same}
 use Rattle.waiting.specs.Calm.{spot}
-use Rattle.waiting.specs.Calm.Still.{stirred}
 use Rattle.waiting.specs.Stirred.{covers-stirred, passed-stirred, calm-passed}
 use Rattle.waiting.specs.Notes.{stirIn, askedIn, Flagged}
 use Rattle.visiting.specs.Visit.{arrivedOf, guard, jobFor, someAsks, afterPass, passOf, settledOf, read, Keyed, Ways, Noted, Seen}

@@ -1,5 +1,5 @@
 -- `asking::reached` meets its contract: what is past the key by at most t has not wrapped. Assumes nothing.
-use mathlib.Core.Path.{_≡_, refl, sym, _∙_}
+use mathlib.Core.Path.{sym}
 use native.Mathlib.Omega.{arith}
 use Rattle.asking.specs.Reach.{reach-no, reach-yes}
 use borrow.Author.Needs.{needs}

@@ -1,6 +1,6 @@
 -- `clearing::sweep` meets its contract. The invariant is `Closing`: the kept rows stand first, and what is still to be read is unchanged; and the pairs that
 -- the rows read so far concern are told. Assumes nothing.
-use mathlib.Core.Path.{_≡_, refl, sym, ap, _∙_, subst}
+use mathlib.Core.Path.{_≡_, refl, sym, ap, _∙_}
 use mathlib.Core.Bool.{not}
 use mathlib.Core.Logic.{⊎-elim}
 use Prim.Native.Nat.{_+_, _-_, _*_, _≤_}

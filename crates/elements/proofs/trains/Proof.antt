@@ -3,7 +3,6 @@ use mathlib.Core.Path.{_≡_, refl, sym, ap, _∙_}
 use Prim.Native.Nat.{ℕ, _+_, _-_, _≤_}
 use native.Mathlib.Omega.{arith}
 use lib.ListN.{length, getD}
-use Rattle.asking.specs.Ask.{Within}
 use Rattle.visiting.specs.Visit.{passOf, read, Seen}
 use Rattle.elements.specs.Elements.{elementOf}
 use Rattle.visiting.specs.Unmoved.{unseen}

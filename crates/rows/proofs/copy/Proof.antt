@@ -1,11 +1,11 @@
 -- `rows::copy` meets its contract. The invariant: what is written is the part up to i more. Assumes nothing.
-use mathlib.Core.Path.{_≡_, refl, sym, _∙_, ap}
+use mathlib.Core.Path.{_≡_, refl, _∙_}
 use mathlib.Core.Logic.{⊎-elim}
 use Prim.Native.Nat.{_+_, _-_, _≤_}
 use native.Mathlib.Omega.{arith}
 use lib.ListN.{length, length-set}
-use lib.Seq.{slice, slice-empty, length-slice}
-use Rattle.lists.specs.Writes.{Put, put-none, put-one, put-join, put-fits, put-length}
+use lib.Seq.{slice, slice-empty}
+use Rattle.lists.specs.Writes.{Put, put-none, put-one, put-join}
 use Rattle.rows.specs.Written.{put-filled, slice-more}
 use borrow.Author.Needs.{needs}
 use Rattle.rows.proofs.copy.Statement.{statement}

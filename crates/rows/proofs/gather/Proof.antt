@@ -1,12 +1,12 @@
 -- `rows::gather` meets its contract. The invariant: the output begins with the covers met among the first i rows. Assumes nothing.
-use mathlib.Core.Path.{_≡_, refl, sym, _∙_, ap}
+use mathlib.Core.Path.{_≡_, refl, sym, _∙_}
 use mathlib.Core.Logic.{⊎-elim}
 use Prim.Native.Nat.{_+_, _-_, _*_, _/_, _≤_}
 use native.Mathlib.Omega.{arith}
 use mathlib.Core.Bool.{not}
 use lib.ListN.{length, take, getD, length-set}
 use lib.Dec.{eqb}
-use Rattle.rows.specs.Rows.{rowsOf, rowsIn, metOf, Begins}
+use Rattle.rows.specs.Rows.{rowsOf, rowsIn, metOf}
 use Rattle.rows.specs.Written.{met-offered, met-passed, one-few}
 use borrow.Author.Needs.{needs}
 use Rattle.rows.proofs.gather.Statement.{statement}

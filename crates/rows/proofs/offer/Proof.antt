@@ -1,12 +1,8 @@
 -- `rows::offer` meets its contract, by whose row it is. Assumes nothing.
-use mathlib.Core.Path.{_≡_, refl, _∙_, sym, ap}
-use mathlib.Core.Bool.{Bool, not}
+use mathlib.Core.Path.{refl}
 use native.Mathlib.Omega.{arith}
-use Prim.Native.Nat.{_+_, _/_}
-use lib.ListN.{length}
-use lib.Dec.{eqb}
+use Prim.Native.Nat.{_/_}
 use borrow.Author.Tests.{eq-eqb, ne-eqb}
-use Rattle.rules.specs.Lists.{one}
 use borrow.Author.Needs.{needs}
 use Rattle.rows.proofs.offer.Statement.{statement}
 use Rattle.rows.proofs.offer.Tie as tie

@@ -4,8 +4,7 @@ use mathlib.Core.Path.{refl}
 use Prim.Native.Nat.{_/_}
 use native.Mathlib.Omega.{arith}
 use lib.ListN.{length}
-use Rattle.cut.specs.Cut.{carried, Room}
-use Rattle.cut.specs.declared.Pieces.{Pieces}
+use Rattle.cut.specs.Cut.{carried}
 use Rattle.cut.specs.Written.{wrote-held-length}
 use Rattle.quiet.specs.Parts.{sub-or-left, sub-or-right}
 use Rattle.serving.specs.Pass.Went.{moves}

@@ -1,6 +1,5 @@
 -- `visiting::arrive` meets its contract, by whether a cover entered and whether the element is the train's last station. Assumes nothing.
 use mathlib.Core.Path.{sym, _∙_}
-use native.Mathlib.Omega.{arith}
 use Rattle.visiting.specs.Arriving.{arrived-none, arrived-other, arrived-there}
 use borrow.Author.Needs.{needs}
 use Rattle.visiting.proofs.arrive.Statement.{statement}

@@ -1,6 +1,6 @@
 -- `visiting::served` meets its contract, by `served-law` from what its four calls ensure. Assumes nothing.
-use mathlib.Core.Path.{_≡_, sym, ap, _∙_}
-use Prim.Native.Nat.{_+_, _*_, _/_, _%_}
+use mathlib.Core.Path.{_≡_, sym, _∙_}
+use Prim.Native.Nat.{_+_, _*_}
 use native.Mathlib.Omega.{arith}
 use lib.ListN.{getD}
 use Rattle.asking.specs.Ask.{asksOf, reachOf, jobOf}

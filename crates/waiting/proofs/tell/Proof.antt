@@ -1,5 +1,4 @@
 -- `waiting::tell` meets its contract, by whether rows of the pair wait. Assumes nothing.
-use mathlib.Core.Path.{refl}
 use native.Mathlib.Omega.{arith}
 use lib.ListN.{getD, length-set}
 use lib.Bits.{bitOr}
