@@ -2,9 +2,8 @@
 -- the bytes, and each way to answer is one of 01's. Assumes nothing.
 use mathlib.Core.Path.{_≡_, refl, ap, sym, _∙_}
 use mathlib.Core.Bool.{Bool, true, false, cond, not, _||_}
-use mathlib.Core.List.{List, [], _∷_, map}
-use Prim.Native.Nat.{ℕ, _+_, _-_, _≤_, _<_}
-use native.Mathlib.Omega.{arith}
+use mathlib.Core.List.{List, [], map-id}
+use Prim.Native.Nat.{ℕ, _+_, _≤_, _<_}
 use lib.ListN.{length, getD}
 use lib.Dec.{leb, ltb, eqb}
 use borrow.Author.Tests.{lt-ltb, le-ltb, le-leb, lt-leb}
@@ -13,22 +12,21 @@ use Rattle.rules.specs.Refusals.{Result, then}
 use Rattle.rules.specs.Refusals.Result.{refused, answer}
 use Rattle.rules.specs.Files.{Case, Head, byte, word, headOf, caseOf, files}
 use Rattle.rules.specs.Calls.{choiceBroken, noSuchTrain}
+use Rattle.sound.specs.Bodies.{pairs-count}
+use Rattle.sound.specs.Accepted.{accepted-reads}
+use Rattle.fields.specs.At.{word-drop}
 use Rattle.bodies.specs.Search.{any-same, any-below}
-use Rattle.bodies.specs.Agree.{word-drop}
 use Rattle.reader.specs.Stands.{head-of}
 use Rattle.lookup.specs.declared.Sizes.{Sizes}
 use Rattle.lookup.specs.declared.Files.{Files}
 use Rattle.lookup.specs.declared.Files.the-variants.{Sound, Unsound}
 use Rattle.lookup.specs.Answers.{sizesOf, filesOf}
+use Rattle.lookup.specs.Laws.{sound-unsound}
 use Rattle.lookup.specs.Lookup.{tableBytes, trainPlace}
-use Rattle.lookup.specs.Tables.{both, pairs-count, case-pairs}
+use Rattle.lookup.specs.Tables.{case-pairs}
 use Rattle.arguments.specs.Arguments.{forSingle, forTrain, forStop, pastTable, choiceWrong}
 
 -- ---- the choice
-
-map-same : (l : List ℕ) → map (λ (k : ℕ). k) l ≡ l
-map-same [] = refl
-map-same (a ∷ l) = ap (λ (t : List ℕ). a ∷ t) (map-same l)
 
 module _ (cs bk : List ℕ) (C : Case) (h : files cs bk ≡ answer C) where
   past-agrees : (x : List ℕ) (k : ℕ) → k < length (C .trains) → pastTable cs bk x k ≡ leb (length (getD (C .tables) k [])) (getD x k 0)
@@ -40,7 +38,7 @@ module _ (cs bk : List ℕ) (C : Case) (h : files cs bk ≡ answer C) where
   choice-agrees x =
       go (eqb (length x) (length (C .trains)))
       (any-same (pastTable cs bk x) (λ k. leb (length (getD (C .tables) k [])) (getD x k 0)) (length (C .trains)) (past-agrees x)
-      ∙ sym (ap (any (λ k. leb (length (getD (C .tables) k [])) (getD x k 0))) (sym (map-same (below (length (C .trains))))) ∙ any-below (λ k. leb (length (getD (C .tables) k [])) (getD x k 0)) (λ (k : ℕ). k) (length (C .trains))))
+      ∙ sym (ap (any (λ k. leb (length (getD (C .tables) k [])) (getD x k 0))) (sym (map-id (below (length (C .trains))))) ∙ any-below (λ k. leb (length (getD (C .tables) k [])) (getD x k 0)) (λ (k : ℕ). k) (length (C .trains))))
     where
       go : (b : Bool) {p q : Bool} → p ≡ q → cond b p true ≡ not b || q
       go true e = e
@@ -50,8 +48,8 @@ module _ (cs bk : List ℕ) (C : Case) (h : files cs bk ≡ answer C) where
   pub minute-agrees : word cs 3 ≡ C .head .lastMinute
   unfolding caseOf headOf
   minute-agrees =
-      let w = both cs bk C h in
-      sym (word-drop cs 3 0 3 refl) ∙ sym (ap (λ (D : Case). D .head .lastMinute) (w .is) ∙ ap (λ (a : Head). a .lastMinute) (head-of cs (w .inCase) (w .of-case)))
+      let w = accepted-reads cs bk C h in
+      sym (word-drop cs 3 0 3 refl) ∙ sym (ap (λ (D : Case). D .head .lastMinute) (w .assembled) ∙ ap (λ (a : Head). a .lastMinute) (head-of cs (w .of-case) (w .case-read)))
 
 -- ---- the ways to answer
 
@@ -63,7 +61,7 @@ module _ (cs bk : List ℕ) where
       where
         from : (a : Result Case) → files cs bk ≡ a → r ≡ filesOf (then a go)
         from (refused q) h = e ∙ ap filesOf h
-        from (answer C) h = let x = sym p ∙ e ∙ ap filesOf h in let z : _≡_ {A = ℕ} 0 1 = cc x in absurd (omega arith)
+        from (answer C) h = absurd (sound-unsound _ _ _ _ (sym (sym p ∙ e ∙ ap filesOf h)))
 
     pub single-files : (x : List ℕ) (k : ℕ) → r ≡ filesOf (forSingle cs bk x k)
     unfolding forSingle
@@ -88,7 +86,7 @@ module _ (cs bk : List ℕ) where
     of-case = from (files cs bk) refl
       where
         from : (a : Result Case) → files cs bk ≡ a → Of
-        from (refused q) h = let x = sym p ∙ e ∙ ap filesOf h in let z : _≡_ {A = ℕ} 0 1 = cc x in absurd (omega arith)
+        from (refused q) h = absurd (sound-unsound _ _ _ _ (sym p ∙ e ∙ ap filesOf h))
         from (answer C) h = let x = sym p ∙ e ∙ ap filesOf h in record { inside = C; is = h; sizes = cc x }
 
     trains : s .trains ≡ length (of-case .inside .trains)

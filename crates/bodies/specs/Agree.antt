@@ -1,31 +1,19 @@
 -- The verdict on a body that the code computes by offset is the verdict of 01's rules on what the body holds: each rule is carried
 -- from the list of stops or pairs to its indices, and the chain of tests is then the same. Assumes nothing.
 use mathlib.Core.Path.{_≡_, refl, ap, sym, _∙_}
-use mathlib.Core.Bool.{Bool, true, false, cond, not, _||_, true≢false}
-use mathlib.Core.List.{List, [], _∷_, map}
+use mathlib.Core.Bool.{Bool, true, false, cond, not, _||_, or-false, true≢false}
+use mathlib.Core.List.{List, [], _∷_, map, map-map}
 use Prim.Native.Nat.{ℕ, suc, _+_, _-_, _*_, _%_, _<_}
 use native.Mathlib.Omega.{arith}
 use lib.Dec.{leb, ltb, eqb}
 use lib.ListN.{length, drop}
-use lib.Seq.{getD-drop}
 use borrow.Author.Tests.{lt-ltb, le-ltb, ne-eqb, ltb-true, ltb-false, eqb-true, eqb-false}
 use Rattle.rules.specs.Lists.{any, span, below, has}
 use Rattle.rules.specs.Refusals.{verdict, firstOf}
 use Rattle.rules.specs.Files.{Contents, Stop, Pair, byte, word, headOf, trackOf, stopOf, trainOf, pairOf, tableOf, lengths, headRules, stationRules, unknown, leads, trackRules, anyStep, repeats, pathBroken, timesBroken, trainRules, rising, tableRules}
+use Rattle.fields.specs.At.{byte-drop, word-drop}
 use Rattle.bodies.specs.Bodies.{anyBelow, sumBelow, headVerdict, stationVerdict, joined, trackVerdict, stops, stop, arrival, departure, repeated, badStop, badTime, timesVerdict, trainVerdict, pairs, delay, weight, badPair, pairsVerdict, tableVerdict, badLength}
 use Rattle.bodies.specs.Search.{any-here, any-same, any-or, sum-same, any-below, sum-below, afterFirst, step-below, repeats-below, rising-below, lastOf-below}
-
--- ---- bytes of a part
-
-module _ (l : List ℕ) (n i j : ℕ) (e : n + i ≡ j) where
-  pub byte-drop : byte (drop n l) i ≡ byte l j
-  byte-drop = getD-drop n l i 0 ∙ ap (byte l) e
-
-pub word-drop : (l : List ℕ) (n i j : ℕ) → n + i ≡ j → word (drop n l) i ≡ word l j
-word-drop l n i j e =
-    let a = byte-drop l n i j e in
-    let b = byte-drop l n (i + 1) (j + 1) (omega arith) in
-    rw (a, b)
 
 -- ---- tests
 
@@ -36,15 +24,12 @@ below-one n = go (eqb n 0) refl
     go true e = let h = eqb-true n 0 e in lt-ltb n 1 (omega arith)
     go false e = let h = eqb-false n 0 e in le-ltb n 1 (omega arith)
 
-pub below-none : (n : ℕ) → ltb n 0 ≡ false
-below-none n = le-ltb n 0 (omega arith)
-
 -- ---- head, station, track
 
 pub head-agrees : (b : List ℕ) → headVerdict b ≡ verdict (headRules (headOf b))
 unfolding headVerdict headRules headOf
 head-agrees b =
-    rw (below-one (word b 0), below-none (byte b 2), below-one (word b 3))
+    rw (below-one (word b 0), le-ltb (byte b 2) 0 (omega arith), below-one (word b 3))
     (go (eqb (word b 0) 0) (ltb 719 (word b 0)) (ltb 30 (byte b 2)) (eqb (word b 3) 0) (ltb 1024 (word b 3)))
   where
     go : (p q r s t : Bool) → cond p 6 (cond q 6 (cond r 6 (cond s 6 (cond t 6 0)))) ≡ firstOf (((p || q) || (false || r)) || (s || t)) 6 0
@@ -100,10 +85,6 @@ module _ (c : Contents) (earlier : List ℕ) (base n stations : ℕ) (known : st
     unfolding stopOf
     at-departure k = word-drop b (2 + 5 * k) 3 (5 * k + 5) (omega arith)
 
-    map-map : (l : List ℕ) → map (λ (s : Stop). s .station) (map at l) ≡ map (λ k. at k .station) l
-    map-map [] = refl
-    map-map (k ∷ l) = ap (λ (t : List ℕ). at k .station ∷ t) (map-map l)
-
     -- a stop is bad where its station is unknown, stands before it, or has no track from the stop before
     stop-agrees : (k : ℕ) → badStop earlier base n stations b k
         ≡ (unknown c (at k .station) || anyBelow (λ i. eqb (at i .station) (at k .station)) k) || afterFirst (λ i j. not (any (leads (at i .station) (at j .station)) (c .tracks))) k
@@ -125,7 +106,7 @@ module _ (c : Contents) (earlier : List ℕ) (base n stations : ℕ) (known : st
         any-same (badStop earlier base n stations b) _ m (λ k h. stop-agrees k)
         ∙ sym (ap (λ (x : Bool). x || anyBelow (afterFirst S) m) (any-or U R m) ∙ any-or (λ k. U k || R k) (afterFirst S) m)
         ∙ ap (λ (x : Bool). (x || anyBelow R m) || anyBelow (afterFirst S) m) (sym (any-below (λ (s : Stop). unknown c (s .station)) at m))
-        ∙ ap (λ (x : Bool). (any (λ (s : Stop). unknown c (s .station)) (map at (below m)) || x) || anyBelow (afterFirst S) m) (sym (ap repeats (map-map (below m)) ∙ repeats-below (λ k. at k .station) m))
+        ∙ ap (λ (x : Bool). (any (λ (s : Stop). unknown c (s .station)) (map at (below m)) || x) || anyBelow (afterFirst S) m) (sym (ap repeats (map-map (λ (s : Stop). s .station) at (below m)) ∙ repeats-below (λ k. at k .station) m))
         ∙ ap (λ (x : Bool). (any (λ (s : Stop). unknown c (s .station)) (map at (below m)) || repeats (map (λ (s : Stop). s .station) (map at (below m)))) || x) (sym (step-below (λ (s t : Stop). not (any (leads (s .station) (t .station)) (c .tracks))) at m))
       where
         U : ℕ → Bool
@@ -214,14 +195,10 @@ module _ (c : Contents) (tables last : ℕ) (types : (x : ℕ) → any (λ e. le
       go false false true = refl
       go false false false = refl
 
-  delays-map : (l : List ℕ) → map (λ (p : Pair). p .delay) (map pair l) ≡ map (λ k. pair k .delay) l
-  delays-map [] = refl
-  delays-map (k ∷ l) = ap (λ (t : List ℕ). pair k .delay ∷ t) (delays-map l)
-
   pairs-agree : (m : ℕ) → anyBelow (badPair b) m ≡ not (rising (map (λ (p : Pair). p .delay) (map pair (below m)))) || any (λ (p : Pair). eqb (p .weight) 0) (map pair (below m))
   pairs-agree m =
       any-same (badPair b) _ m (λ k h. pair-agrees k) ∙ sym (any-or (afterFirst D) W m)
-      ∙ ap (λ (x : Bool). x || anyBelow W m) (sym (ap (λ (l : List ℕ). not (rising l)) (delays-map (below m)) ∙ rising-below (λ k. pair k .delay) m))
+      ∙ ap (λ (x : Bool). x || anyBelow W m) (sym (ap (λ (l : List ℕ). not (rising l)) (map-map (λ (p : Pair). p .delay) pair (below m)) ∙ rising-below (λ k. pair k .delay) m))
       ∙ ap (λ (x : Bool). not (rising (map (λ (p : Pair). p .delay) (map pair (below m)))) || x) (sym (any-below (λ (p : Pair). eqb (p .weight) 0) pair m))
     where
       D : ℕ → ℕ → Bool
@@ -286,18 +263,14 @@ table-length n = go (ltb n 18) refl
         let h = ltb-false n 18 e in
         rw (ne-eqb n 3 (λ q. omega arith), ne-eqb n 5 (λ q. omega arith), ne-eqb n 7 (λ q. omega arith), ne-eqb n 9 (λ q. omega arith), ne-eqb n 11 (λ q. omega arith), ne-eqb n 13 (λ q. omega arith), ne-eqb n 15 (λ q. omega arith), ne-eqb n 17 (λ q. omega arith), le-ltb n 3 (omega arith), lt-ltb 17 n (omega arith))
 
-only : (x : Bool) → not (x || false) ≡ not x
-only true = refl
-only false = refl
-
 pub length-agrees : (tag n : ℕ) → not (has (lengths tag) n) ≡ badLength tag n
 unfolding lengths badLength
 length-agrees tag n = go (eqb tag 1) (eqb tag 2) (eqb tag 3) (eqb tag 4)
   where
     go : (p q r s : Bool) → not (has (cond p (5 ∷ []) (cond q (1 ∷ []) (cond r (3 ∷ []) (cond s (map (λ k. 2 + 5 * k) (span 7 2)) (map (λ k. 1 + 2 * k) (span 8 1)))))) n)
         ≡ cond p (not (eqb n 5)) (cond q (not (eqb n 1)) (cond r (not (eqb n 3)) (cond s (cond (ltb n 12) true (cond (ltb 42 n) true (not (eqb (n % 5) 2)))) (cond (ltb n 3) true (cond (ltb 17 n) true (not (eqb (n % 2) 1)))))))
-    go true q r s = only (eqb n 5)
-    go false true r s = only (eqb n 1)
-    go false false true s = only (eqb n 3)
+    go true q r s = ap not (or-false (eqb n 5))
+    go false true r s = ap not (or-false (eqb n 1))
+    go false false true s = ap not (or-false (eqb n 3))
     go false false false true = train-length n
     go false false false false = table-length n

@@ -1,15 +1,19 @@
 -- A search, a sum and a step by index over the numbers below n are the same as over the list of what stands at those numbers:
 -- each list is taken apart at its last element, as the search by index is. Assumes nothing.
 use mathlib.Core.Path.{_≡_, refl, ap, sym, _∙_}
-use mathlib.Core.Bool.{Bool, true, false, cond, not, _&&_, _||_, true≢false}
+use mathlib.Core.Bool.{Bool, true, false, cond, not, _&&_, _||_, or-false, true≢false}
 use mathlib.Core.List.{List, [], _∷_, _++_, map}
 use Prim.Native.Nat.{ℕ, zero, suc, _+_, _-_, _≤_, _<_}
 use native.Mathlib.Numerals.{add-one}
 use native.Mathlib.Omega.{arith}
 use lib.Dec.{leb, ltb, eqb}
 use borrow.Author.Tests.{le-leb, lt-leb, ne-eqb, ltb-true, ltb-false}
-use Rattle.rules.specs.Lists.{any, sum, span, below, has}
+use Rattle.rules.specs.Lists.{any, sum, below, has}
 use Rattle.rules.specs.Files.{Stop, anyStep, repeats, lastOf, rising}
+use Rattle.lists.specs.Each.{map-append}
+use Rattle.lists.specs.Every.{any-append}
+use Rattle.lists.specs.Sums.{sum-append}
+use Rattle.lists.specs.Below.{below-last}
 use Rattle.bodies.specs.Bodies.{anyBelow, sumBelow}
 
 -- ---- a search by index
@@ -61,6 +65,13 @@ any-or f g (suc n) = go (f n) (g n) (anyBelow f n) (anyBelow g n) (anyBelow (λ 
     go false true false y z h = refl
     go false false x y z h = h
 
+-- the last test of a search, put first
+or-last : (b x : Bool) → x || b ≡ cond b true x
+or-last true true = refl
+or-last true false = refl
+or-last false true = refl
+or-last false false = refl
+
 -- ---- a sum by index
 
 pub sum-more : (f : ℕ → ℕ) (n : ℕ) → sumBelow f (n + 1) ≡ sumBelow f n + f n
@@ -81,34 +92,10 @@ sum-same f g (suc n) h = rw (h n (omega arith), sum-same f g n (λ k p. h k (ome
 
 -- ---- lists taken apart at the last element
 
-pub span-last : (n k : ℕ) → span (suc n) k ≡ span n k ++ ((n + k) ∷ [])
-span-last zero k = let e : k ≡ 0 + k = omega arith in ap (λ (i : ℕ). i ∷ []) e
-span-last (suc n) k =
-    let e : n + suc k ≡ suc n + k = omega arith in
-    ap (λ (t : List ℕ). k ∷ t) (span-last n (suc k) ∙ ap (λ (i : ℕ). span n (suc k) ++ (i ∷ [])) e)
-
 module _ {A : Type 0} where
-  map-last : (g : ℕ → A) (l : List ℕ) (k : ℕ) → map g (l ++ (k ∷ [])) ≡ map g l ++ (g k ∷ [])
-  map-last g [] k = refl
-  map-last g (a ∷ l) k = ap (λ (t : List A). g a ∷ t) (map-last g l k)
-
   -- what stands at the numbers below n, the last apart
-  pub below-last : (g : ℕ → A) (n : ℕ) → map g (below (suc n)) ≡ map g (below n) ++ (g n ∷ [])
-  below-last g n =
-      let e : n + 0 ≡ n = omega arith in
-      ap (map g) (span-last n 0 ∙ ap (λ (i : ℕ). span n 0 ++ (i ∷ [])) e) ∙ map-last g (below n) n
-
-  pub any-append : (t : A → Bool) (l m : List A) → any t (l ++ m) ≡ any t l || any t m
-  any-append t [] m = refl
-  any-append t (a ∷ l) m = go (t a) (any-append t l m)
-    where
-      go : (b : Bool) → any t (l ++ m) ≡ any t l || any t m → b || any t (l ++ m) ≡ (b || any t l) || any t m
-      go true h = refl
-      go false h = h
-
-  sum-last : (f : A → ℕ) (l : List A) (a : A) → sum f (l ++ (a ∷ [])) ≡ sum f l + f a
-  sum-last f [] a = omega arith
-  sum-last f (b ∷ l) a = let h = sum-last f l a in omega arith
+  map-last : (g : ℕ → A) (n : ℕ) → map g (below (suc n)) ≡ map g (below n) ++ (g n ∷ [])
+  map-last g n = ap (map g) (below-last n) ∙ map-append g (below n) (n ∷ [])
 
   -- ---- what is searched by index is what is searched in the list
 
@@ -116,19 +103,13 @@ module _ {A : Type 0} where
   unfolding anyBelow
   any-below t g zero = refl
   any-below t g (suc n) =
-      ap (any t) (below-last g n) ∙ any-append t (map g (below n)) (g n ∷ []) ∙ ap (λ (x : Bool). x || (t (g n) || false)) (any-below t g n)
-      ∙ turn (t (g n)) (anyBelow (λ k. t (g k)) n)
-    where
-      turn : (b x : Bool) → x || (b || false) ≡ cond b true x
-      turn true true = refl
-      turn true false = refl
-      turn false true = refl
-      turn false false = refl
+      ap (any t) (map-last g n) ∙ any-append t (map g (below n)) (g n ∷ []) ∙ ap (λ (x : Bool). any t (map g (below n)) || x) (or-false (t (g n)))
+      ∙ ap (λ (x : Bool). x || t (g n)) (any-below t g n) ∙ or-last (t (g n)) (anyBelow (λ k. t (g k)) n)
 
   pub sum-below : (f : A → ℕ) (g : ℕ → A) (n : ℕ) → sum f (map g (below n)) ≡ sumBelow (λ k. f (g k)) n
   unfolding sumBelow
   sum-below f g zero = refl
-  sum-below f g (suc n) = ap (sum f) (below-last g n) ∙ sum-last f (map g (below n)) (g n) ∙ ap (λ (x : ℕ). x + f (g n)) (sum-below f g n)
+  sum-below f g (suc n) = ap (sum f) (map-last g n) ∙ sum-append f (map g (below n)) (g n ∷ []) ∙ omega (arith, sum-below f g n)
 
 -- ---- steps from one to the next, and what stands twice
 
@@ -142,24 +123,9 @@ after-suc f n =
     let e : suc n - 1 ≡ n = omega arith in
     rw (ne-eqb (suc n) 0 z, e)
 
-or-last : (b x : Bool) → x || b ≡ cond b true x
-or-last true true = refl
-or-last true false = refl
-or-last false true = refl
-or-last false false = refl
-
 step-last : (f : Stop → Stop → Bool) (l : List Stop) (a b : Stop) → anyStep f (l ++ (a ∷ []) ++ (b ∷ [])) ≡ anyStep f (l ++ (a ∷ [])) || f a b
-step-last f [] a b = go (f a b)
-  where
-    go : (x : Bool) → x || false ≡ false || x
-    go true = refl
-    go false = refl
-step-last f (x ∷ []) a b = go (f x a) (f a b)
-  where
-    go : (x y : Bool) → x || (y || false) ≡ (x || false) || y
-    go true y = refl
-    go false true = refl
-    go false false = refl
+step-last f [] a b = or-false (f a b)
+step-last f (x ∷ []) a b = rw (or-false (f a b), or-false (f x a))
 step-last f (x ∷ (y ∷ l)) a b = go (f x y) _ _ _ (step-last f (y ∷ l) a b)
   where
     go : (x p q r : Bool) → p ≡ q || r → x || p ≡ (x || q) || r
@@ -171,9 +137,9 @@ unfolding anyBelow
 step-below f g zero = refl
 step-below f g (suc zero) = refl
 step-below f g (suc (suc n)) =
-    ap (anyStep f) (below-last g (suc n) ∙ ap (λ (l : List Stop). l ++ (g (suc n) ∷ [])) (below-last g n))
+    ap (anyStep f) (map-last g (suc n) ∙ ap (λ (l : List Stop). l ++ (g (suc n) ∷ [])) (map-last g n))
     ∙ step-last f (map g (below n)) (g n) (g (suc n))
-    ∙ ap (λ (x : Bool). x || f (g n) (g (suc n))) (sym (ap (anyStep f) (below-last g n)) ∙ step-below f g (suc n))
+    ∙ ap (λ (x : Bool). x || f (g n) (g (suc n))) (sym (ap (anyStep f) (map-last g n)) ∙ step-below f g (suc n))
     ∙ or-last (f (g n) (g (suc n))) (anyBelow (afterFirst (λ i k. f (g i) (g k))) (suc n))
     ∙ ap (λ (x : Bool). cond x true (anyBelow (afterFirst (λ i k. f (g i) (g k))) (suc n))) (sym (after-suc (λ i k. f (g i) (g k)) n))
 
@@ -191,7 +157,7 @@ pub repeats-below : (g : ℕ → ℕ) (n : ℕ) → repeats (map g (below n)) �
 unfolding anyBelow
 repeats-below g zero = refl
 repeats-below g (suc n) =
-    ap repeats (below-last g n)
+    ap repeats (map-last g n)
     ∙ repeats-last (map g (below n)) (g n)
     ∙ ap (λ (x : Bool). x || any (λ y. eqb y (g n)) (map g (below n))) (repeats-below g n)
     ∙ ap (λ (x : Bool). anyBelow (λ k. anyBelow (λ i. eqb (g i) (g k)) k) n || x) (any-below (λ y. eqb y (g n)) g n)
@@ -229,9 +195,9 @@ unfolding anyBelow
 rising-below g zero = refl
 rising-below g (suc zero) = refl
 rising-below g (suc (suc n)) =
-    ap (λ (l : List ℕ). not (rising l)) (below-last g (suc n) ∙ ap (λ (l : List ℕ). l ++ (g (suc n) ∷ [])) (below-last g n))
+    ap (λ (l : List ℕ). not (rising l)) (map-last g (suc n) ∙ ap (λ (l : List ℕ). l ++ (g (suc n) ∷ [])) (map-last g n))
     ∙ rising-last (map g (below n)) (g n) (g (suc n))
-    ∙ ap (λ (x : Bool). x || leb (g (suc n)) (g n)) (sym (ap (λ (l : List ℕ). not (rising l)) (below-last g n)) ∙ rising-below g (suc n))
+    ∙ ap (λ (x : Bool). x || leb (g (suc n)) (g n)) (sym (ap (λ (l : List ℕ). not (rising l)) (map-last g n)) ∙ rising-below g (suc n))
     ∙ or-last (leb (g (suc n)) (g n)) (anyBelow (afterFirst (λ i k. leb (g k) (g i))) (suc n))
     ∙ ap (λ (x : Bool). cond x true (anyBelow (afterFirst (λ i k. leb (g k) (g i))) (suc n))) (sym (after-suc (λ i k. leb (g k) (g i)) n))
 
@@ -241,4 +207,4 @@ lastOf-last (x ∷ []) a = refl
 lastOf-last (x ∷ (y ∷ l)) a = lastOf-last (y ∷ l) a
 
 pub lastOf-below : (g : ℕ → Stop) (n : ℕ) → lastOf (map g (below (suc n))) ≡ g n
-lastOf-below g n = ap lastOf (below-last g n) ∙ lastOf-last (map g (below n)) (g n)
+lastOf-below g n = ap lastOf (map-last g n) ∙ lastOf-last (map g (below n)) (g n)

@@ -1,24 +1,20 @@
 -- What is known where a call's run is answered: the case is the files', the run is the joint run to the last minute, and what is made of the words
--- is made of its arrivals. Each law goes by the cases of the files and of the run. Assumes nothing.
-use mathlib.Core.Path.{_≡_, refl, sym, ap, _∙_, subst}
-use mathlib.Core.Bool.{Bool, true, false}
+-- is made of its arrivals. Each law follows from what an answered run is. Assumes nothing.
+use mathlib.Core.Path.{_≡_, sym, ap, _∙_, subst}
 use mathlib.Core.List.{List, [], _++_, append-assoc, append-nil}
-use Prim.Native.Nat.{ℕ, zero, suc, _+_, _-_, _^_, _≤_, _<_}
+use Prim.Native.Nat.{ℕ, _+_, _-_, _^_, _≤_, _<_}
 use native.Mathlib.Omega.{arith}
 use lib.ListN.{length, getD, take, drop, replicate, drop-of-length-le}
 use lib.Seq.{length-take-le}
-use lib.Dec.{leb}
-use borrow.Author.Tests.{leb-false}
-use Rattle.rules.specs.Refusals.{Result, then, unless}
-use Rattle.rules.specs.Refusals.Result.{refused, answer}
-use Rattle.rules.specs.Files.{Case, files}
+use Rattle.rules.specs.Files.{Case}
 use Rattle.rules.specs.Turns.{State}
 use Rattle.rules.specs.Joint.{Entry, joint, total}
 use Rattle.rules.specs.Listing.{listing}
 use Rattle.rules.specs.Figures as rules
-use Rattle.rules.specs.Calls.{Run, runTo, noSuchTrain, wholeRun, trainRun, filled, textOf}
+use Rattle.rules.specs.Calls.{Run, filled, textOf}
 use Rattle.sound.specs.Facts.{Sound}
 use Rattle.sound.specs.Accepted.{accepted-sound}
+use Rattle.sound.specs.Runs.{Answered}
 use Rattle.codes.specs.Tables.{tables}
 use Rattle.images.specs.Rows.{Weighed}
 use Rattle.listing.specs.Text.{Listed, Prints}
@@ -32,53 +28,6 @@ use Rattle.desk.specs.declared.Answer.{Answer}
 use Rattle.desk.specs.Answers.{answered}
 use Rattle.desk.specs.Steps.{Printable, Printed, Measurable, Measured}
 use Rattle.codes.specs.Lookups.{table-plan}
-
--- ---- an answered run over the whole window
-
-pub record Whole (cs bk : List ℕ) (u : Run) : Type 0 where
-  pub accepted : files cs bk ≡ answer (u .of)
-  pub state-is : u .state ≡ joint (u .of) (u .of .head .lastMinute)
-  pub met-none : joint (u .of) (u .of .head .lastMinute) .met ≡ 0
-
-run-answered : (cs bk : List ℕ) (C : Case) (u : Run) → files cs bk ≡ answer C → runTo (C .head .lastMinute) C ≡ answer u → Whole cs bk u
-run-answered cs bk C u e h = go (joint C (C .head .lastMinute) .met) refl h
-  where
-    go : (n : ℕ) → joint C (C .head .lastMinute) .met ≡ n → unless n 0 0 answer (record { of = C; state = joint C (C .head .lastMinute) }) ≡ answer u → Whole cs bk u
-    go zero q r =
-        let is : _≡_ {A = Run} (record { of = C; state = joint C (C .head .lastMinute) }) u = cc r in
-        subst (Whole cs bk) is (record { accepted = e; state-is = refl; met-none = q })
-    go (suc n) q r = let z : _≡_ {A = ℕ} 0 1 = cc r in absurd (omega arith)
-
-pub whole-answered : (cs bk : List ℕ) (u : Run) → wholeRun cs bk ≡ answer u → Whole cs bk u
-unfolding wholeRun
-whole-answered cs bk u h = go (files cs bk) refl h
-  where
-    go : (R : Result Case) → files cs bk ≡ R → then R (λ C. runTo (C .head .lastMinute) C) ≡ answer u → Whole cs bk u
-    go (refused r) e q = let z : _≡_ {A = ℕ} 0 1 = cc q in absurd (omega arith)
-    go (answer C) e q = run-answered cs bk C u e q
-
--- the figures' train is one of the case
-pub record OfTrain (cs bk : List ℕ) (k : ℕ) (u : Run) : Type 0 where
-  pub whole : Whole cs bk u
-  pub known : k < length (u .of .trains)
-
-pub train-answered : (cs bk : List ℕ) (k : ℕ) (u : Run) → trainRun cs bk k ≡ answer u → OfTrain cs bk k u
-unfolding trainRun noSuchTrain
-train-answered cs bk k u h = go (files cs bk) refl (h′ h)
-  where
-    h′ : trainRun cs bk k ≡ answer u → trainRun cs bk k ≡ answer u
-    h′ q = q
-
-    known : (C : Case) → files cs bk ≡ answer C → trainRun cs bk k ≡ answer u → (b : Bool) → leb (length (C .trains)) k ≡ b → OfTrain cs bk k u
-    known C e q true t = let z : _≡_ {A = ℕ} 0 1 = cc (rw (e, t) at q) in absurd (omega arith)
-    known C e q false t =
-        let w : Whole cs bk u = run-answered cs bk C u e (rw (e, t) at q) in
-        let same : C ≡ u .of = cc (sym e ∙ w .accepted) in
-        record { whole = w; known = omega (arith, leb-false (length (C .trains)) k t, ap (λ (D : Case). length (D .trains)) same) }
-
-    go : (R : Result Case) → files cs bk ≡ R → trainRun cs bk k ≡ answer u → OfTrain cs bk k u
-    go (refused r) e q = let z : _≡_ {A = ℕ} 0 1 = cc (rw e at q) in absurd (omega arith)
-    go (answer C) e q = known C e q (leb (length (C .trains)) k) refl
 
 -- ---- the listing
 
@@ -100,7 +49,7 @@ printed tb ws text {n} {m} {r} {a} l′ p q long prints e C v w fits =
     (omega (arith, length-take-le 32768 text long)) in
     (e ∙ ap answered (z .answer), ap (λ (l : List ℕ). l ++ drop 32768 text) (z .bytes) ∙ written-part (listing C v) text long)
 
-module _ {cs bk : List ℕ} {u : Run} (w : Whole cs bk u) (tb : List ℕ) (looked : tb ≡ tables (u .of)) where
+module _ {cs bk : List ℕ} {u : Run} (w : Answered cs bk (u .of .head .lastMinute) u) (tb : List ℕ) (looked : tb ≡ tables (u .of)) where
   pub case-sound : Sound (u .of)
   case-sound = accepted-sound cs bk (u .of) (w .accepted)
 
@@ -128,7 +77,7 @@ module _ {cs bk : List ℕ} {u : Run} (w : Whole cs bk u) (tb : List ℕ) (looke
         all-minutes = sym last-looked;
         words = λ k t i j. h .words k t (omega (arith, trains-looked, case-sound .few-trains)) (omega (arith, last-looked, case-sound .in-window));
       })
-      (omega (arith, listing-suffices (u .of) case-sound (w .met-none), ap (λ (s : State Entry). length (listing (u .of) (s .arrived))) (w .state-is)))
+      (omega (arith, listing-suffices (u .of) case-sound (w .unrefused), ap (λ (s : State Entry). length (listing (u .of) (s .arrived))) (w .state)))
 
 -- ---- the figures
 
@@ -146,27 +95,27 @@ module _ (tb ws : List ℕ) (k : ℕ) {p m n w : ℕ} (planned : p ≡ getD tb (
   measure-gives L g C v h =
       g C v (record { weights = h .weights; planned = planned ∙ h .planned; window = last ∙ h .window; whole = whole-looked ∙ h .whole })
 
-module _ {cs bk : List ℕ} {k : ℕ} {u : Run} (o : OfTrain cs bk k u) (tb : List ℕ) (looked : tb ≡ tables (u .of)) (ws : List ℕ) (h : Weighed (u .of) (u .state .arrived) ws) where
+module _ {cs bk : List ℕ} {k : ℕ} {u : Run} (o : Answered cs bk (u .of .head .lastMinute) u × (k < length (u .of .trains))) (tb : List ℕ) (looked : tb ≡ tables (u .of)) (ws : List ℕ) (h : Weighed (u .of) (u .state .arrived) ws) where
   sound-case : Sound (u .of)
-  sound-case = case-sound (o .whole) tb looked
+  sound-case = case-sound (o .0) tb looked
 
   words-hold : Holds (u .of) (u .state .arrived) ws k (getD tb (24 + k) 0) (getD tb 1 0) (100 ^ getD tb 0 0)
   unfolding total
   words-hold = record {
-    weights = λ t l. h .words k t (omega (arith, o .known, sound-case .few-trains)) (omega (arith, sound-case .in-window));
-    planned = ap (λ (l : List ℕ). getD l (24 + k) 0) looked ∙ table-plan (u .of) k (o .known) (omega (arith, o .known, sound-case .few-trains));
-    window = last-looked (o .whole) tb looked;
-    whole = ap (λ (i : ℕ). 100 ^ i) (trains-looked (o .whole) tb looked);
+    weights = λ t l. h .words k t (omega (arith, o .1, sound-case .few-trains)) (omega (arith, sound-case .in-window));
+    planned = ap (λ (l : List ℕ). getD l (24 + k) 0) looked ∙ table-plan (u .of) k (o .1) (omega (arith, o .1, sound-case .few-trains));
+    window = last-looked (o .0) tb looked;
+    whole = ap (λ (i : ℕ). 100 ^ i) (trains-looked (o .0) tb looked);
   }
 
   pub measurable : Measurable tb ws k
   measurable =
       let at-last : Holds (u .of) (joint (u .of) (u .of .head .lastMinute) .arrived) ws k (getD tb (24 + k) 0) (getD tb 1 0) (100 ^ getD tb 0 0) =
-      subst (λ (s : State Entry). Holds (u .of) (s .arrived) ws k (getD tb (24 + k) 0) (getD tb 1 0) (100 ^ getD tb 0 0)) (o .whole .state-is) words-hold in
-      let seen-all = seen cs bk (u .of) (o .whole .accepted) (u .of .head .lastMinute) in record {
-        trains = omega (arith, trains-looked (o .whole) tb looked, sound-case .few-trains);
-        plan = holds-planned (u .of) sound-case seen-all ws k (getD tb (24 + k) 0) (getD tb 1 0) (100 ^ getD tb 0 0) at-last (o .known);
-        weighed = holds-weighed (u .of) sound-case seen-all ws k (getD tb (24 + k) 0) (getD tb 1 0) (100 ^ getD tb 0 0) at-last (o .known);
+      subst (λ (s : State Entry). Holds (u .of) (s .arrived) ws k (getD tb (24 + k) 0) (getD tb 1 0) (100 ^ getD tb 0 0)) (o .0 .state) words-hold in
+      let seen-all = seen cs bk (u .of) (o .0 .accepted) (u .of .head .lastMinute) in record {
+        trains = omega (arith, trains-looked (o .0) tb looked, sound-case .few-trains);
+        plan = holds-planned (u .of) sound-case seen-all ws k (getD tb (24 + k) 0) (getD tb 1 0) (100 ^ getD tb 0 0) at-last (o .1);
+        weighed = holds-weighed (u .of) sound-case seen-all ws k (getD tb (24 + k) 0) (getD tb 1 0) (100 ^ getD tb 0 0) at-last (o .1);
       }
 
   pub measured-figures : (L : ℕ) {f : Figures} → Measured tb ws k L f → f ≡ figuresAnswer (rules.figures (u .of) (u .state .arrived) k L)

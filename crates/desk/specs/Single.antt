@@ -24,6 +24,7 @@ use Rattle.lookup.specs.declared.Sizes.{Sizes}
 use Rattle.lookup.specs.declared.Files.{Files}
 use Rattle.lookup.specs.declared.Files.the-variants as told
 use Rattle.lookup.specs.Answers.{sizesOf, filesOf}
+use Rattle.lookup.specs.Laws.{sound-unsound}
 use Rattle.arguments.specs.Arguments.{forSingle}
 use Rattle.plan.specs.Small.{Bytes, files-small}
 use Rattle.single.specs.Words.{Small}
@@ -46,7 +47,7 @@ pub byte-delays : (cs bk : List ℕ) (C : Case) → Bytes cs → Bytes bk → fi
 byte-delays cs bk C p q e =
     let h = files-small cs bk C p q e in
     every-by (Every (λ p. p .delay ≤ 255)) [] (C .tables)
-    (λ k. every-by (λ p. p .delay ≤ 255) (record { delay = 0; weight = 0 }) (getD (C .tables) k []) (λ d. h .delays k d))
+    (λ k. every-by (λ p. p .delay ≤ 255) (record { delay = 0; weight = 0 }) (getD (C .tables) k []) (h k))
 
 -- ---- the single run
 
@@ -90,7 +91,7 @@ module _ (cs bk x : List ℕ) (k : ℕ) where
         go : Judged cs bk (Chosen x k) (forSingle cs bk x k) → a ≡ singleAnswer (singleRun cs bk x k)
         go (stopped r h q) =
             w ∙ ap filesAnswer (e ∙ ap filesOf q) ∙ ap (λ (R : Result Case). singleAnswer (then R (λ D. answer (arrival D x k)))) (sym q) ∙ ap singleAnswer single-run
-        go (goes C h c q) = let s = sym u ∙ e ∙ ap filesOf q in let z : _≡_ {A = ℕ} 0 1 = cc s in absurd (omega arith)
+        go (goes C h c q) = absurd (sound-unsound _ _ _ _ (sym (sym u ∙ e ∙ ap filesOf q)))
 
     -- the case that the run is of
     pub record Ready (s : Sizes) : Type 0 where
@@ -104,7 +105,7 @@ module _ (cs bk x : List ℕ) (k : ℕ) where
     single-ready {s} u = go single-judged
       where
         go : Judged cs bk (Chosen x k) (forSingle cs bk x k) → Ready s
-        go (stopped r h q) = let t = sym u ∙ e ∙ ap filesOf q in let z : _≡_ {A = ℕ} 0 1 = cc t in absurd (omega arith)
+        go (stopped r h q) = absurd (sound-unsound _ _ _ _ (sym u ∙ e ∙ ap filesOf q))
         go (goes C h c q) = let t = sym u ∙ e ∙ ap filesOf q in record { of = C; accepted = h; sizes = cc t; chosen = c; told-as = q }
 
     module _ {s : Sizes} (ready : Ready s) (tb : List ℕ) (looked : tb ≡ tables (ready .of)) where

@@ -1,9 +1,10 @@
 -- What the field at a place says of a walk over whole fields: where one stands the walk goes on to its end, and else it stops.
--- Each case of the definition decides the test of a whole field. Assumes nothing.
+-- Each case of the definition decides the test of a whole field. And that a walk has turns enough: each field has at least three bytes.
+-- Assumes nothing.
 use mathlib.Core.Path.{_≡_, refl, sym}
 use mathlib.Core.Bool.{Bool, true, false, cond}
 use mathlib.Core.List.{List}
-use Prim.Native.Nat.{ℕ, _+_, _≤_}
+use Prim.Native.Nat.{ℕ, zero, suc, _+_, _≤_, _<_}
 use native.Mathlib.Omega.{arith}
 use lib.ListN.{length}
 use lib.Dec.{leb, ltb}
@@ -46,3 +47,23 @@ field-gone l i h = go (leb (length l) i) (ltb (length l) (i + 3)) (ltb (length l
     go true false c o p q h = let x = leb-true (length l) i o in let y = ltb-false (length l) (i + 3) p in absurd (omega arith)
     go false false true o p q h = lt-leb (past l i) (length l) (ltb-true (length l) (past l i) q)
     go false false false o p q h = absurd (h (byte l i) (word l (i + 1)) (past l i) refl)
+
+-- ---- the turns of a walk
+
+-- a walk over l that has come to i has turns enough to the end, and what it says of its turns is so
+pub record Walked (l : List ℕ) (i : ℕ) (Says : ℕ → Type 0) : Type 0 where
+  pub inside : i ≤ length l
+  pub turns : ℕ
+  pub enough : length l ≤ i + turns
+  pub same : Says (suc turns)
+
+pub walked-start : (l : List ℕ) (Says : ℕ → Type 0) → Says (suc (length l)) → Walked l 0 Says
+walked-start l Says h = record { inside = omega arith; turns = length l; enough = omega arith; same = h }
+
+-- one turn to a place further on
+pub walked-next : {l : List ℕ} {i : ℕ} {Says : ℕ → Type 0} (Then : ℕ → Type 0) → Walked l i Says → (j : ℕ) → i < j → j ≤ length l → ((n : ℕ) → Says (suc n) → Then n) → Walked l j Then
+walked-next {l} {i} Then h j a b f = go (h .turns) (h .enough) (f (h .turns) (h .same))
+  where
+    go : (n : ℕ) → length l ≤ i + n → Then n → Walked l j Then
+    go zero e t = absurd (omega arith)
+    go (suc n) e t = record { inside = b; turns = n; enough = omega arith; same = t }

@@ -4,7 +4,7 @@ pub mod refusals;
 
 ghost use mathlib.Core.Path.{_≡_};
 ghost use Prim.Native.Nat.{_+_, _*_, _<_};
-ghost use lib.ListN.{length, getD};
+ghost use lib.ListN.{getD};
 ghost use Rattle.rules.specs.Files.{word};
 ghost use Rattle.fields.specs.Fields.{fieldAt};
 

@@ -1,12 +1,11 @@
 -- The table found by walking a file is the first of 01's tables of the type, and the train found without one is the first that 01 refuses:
 -- both gather from the places of the file's fields, and the walk stops at the first of them. Assumes nothing.
-use mathlib.Core.Path.{_≡_, refl, ap, sym, _∙_}
+use mathlib.Core.Path.{_≡_, refl, ap, sym, _∙_, subst}
 use mathlib.Core.Bool.{Bool, true, false, cond}
-use mathlib.Core.List.{List, [], _∷_, _++_, map, append-assoc, append-nil}
-use Prim.Native.Nat.{ℕ, zero, suc, _+_, _-_, _≤_, _<_}
+use mathlib.Core.List.{List, [], _∷_, _++_, map, append-nil}
+use Prim.Native.Nat.{ℕ, zero, suc, _+_, _≤_, _<_}
 use native.Mathlib.Omega.{arith}
-use lib.ListN.{length, drop}
-use lib.Seq.{getD-take, getD-drop}
+use lib.ListN.{length}
 use lib.Dec.{leb, ltb, eqb}
 use borrow.Author.Tests.{lt-ltb, le-ltb, le-leb, lt-leb, eqb-true}
 use Rattle.rules.specs.Lists.{one, each, keep}
@@ -15,24 +14,19 @@ use Rattle.rules.specs.Refusals.Result.{answer}
 use Rattle.rules.specs.Files.{File, Contents, Case, Table, Train, byte, word, tableOf, trainOf, more, read, tablesOf, lacking}
 use Rattle.rules.specs.Files.File.{case, book}
 use Rattle.bodies.specs.Bodies.{badLength}
+use Rattle.lists.specs.Each.{each-append, map-append}
+use Rattle.lists.specs.Every.{Every, every-keep}
+use Rattle.fields.specs.At.{byte-part, whole-none, body-of}
 use Rattle.fields.specs.Fields.{past, whole, bodyAt, placesFrom, places}
 use Rattle.reader.specs.Laws.{table-length, train-length}
-use Rattle.reader.specs.Decoded.{Stands, body-of, gathered, trains-decoded}
+use Rattle.reader.specs.Decoded.{Stands, gathered, trains-decoded}
 use Rattle.lookup.specs.Lookup.{seek, firstPlace, isTable, tablePlace, tableBytes, untabled, lacks, lackingPlace}
-use Rattle.lookup.specs.Laws.{within}
+use Rattle.lookup.specs.Laws.{places-inside}
 use Rattle.lookup.specs.Answers.{IsFirst}
 
 -- ---- lists
 
 module _ {A B : Type 0} where
-  each-append : (f : A → List B) (l m : List A) → each f (l ++ m) ≡ each f l ++ each f m
-  each-append f [] m = refl
-  each-append f (a ∷ l) m = ap (λ (x : List B). f a ++ x) (each-append f l m) ∙ sym (append-assoc (f a) (each f l) (each f m))
-
-  map-append : (f : A → B) (l m : List A) → map f (l ++ m) ≡ map f l ++ map f m
-  map-append f [] m = refl
-  map-append f (a ∷ l) m = ap (λ (x : List B). f a ∷ x) (map-append f l m)
-
   -- those made of what passes the test
   pub each-keep : (test : A → Bool) (make : A → B) (l : List A) → each (λ a. one (test a) (make a)) l ≡ map make (keep test l)
   each-keep test make [] = refl
@@ -63,29 +57,14 @@ pub first-place : (test : ℕ → Bool) (l : List ℕ) → firstPlace test l ≡
 unfolding firstPlace places
 first-place test l = seek-places test (suc (length l)) l 0
 
-kept-inside : (test : ℕ → Bool) (n : ℕ) (l : List ℕ) (i j : ℕ) (r : List ℕ) → keep test (placesFrom n l i) ≡ j ∷ r → j < length l
-unfolding placesFrom
-kept-inside test zero l i j r h = let z : _≡_ {A = ℕ} 0 1 = cc in absurd (omega arith)
-kept-inside test (suc n) l i j r h = go (whole l i) refl (test i) refl h (λ k. kept-inside test n l (past l i) j r k)
-  where
-    go : (b : Bool) → whole l i ≡ b → (t : Bool) → test i ≡ t → keep test (cond b (i ∷ placesFrom n l (past l i)) []) ≡ j ∷ r → (keep test (placesFrom n l (past l i)) ≡ j ∷ r → j < length l) → j < length l
-    go true w true e h ih =
-        let k = within l i w in
-        let h′ = rw e at h in
-        let p : i ≡ j = cc h′ in
-        omega arith
-    go true w false e h ih = ih (rw e at h)
-    go false w t e h ih = let z : _≡_ {A = ℕ} 0 1 = cc in absurd (omega arith)
-
 -- a place that the walk finds is within the file
 pub place-inside : (test : ℕ → Bool) (l : List ℕ) (j : ℕ) (r : List ℕ) → keep test (places l) ≡ j ∷ r → j < length l
-unfolding places
-place-inside test l j r h = kept-inside test (suc (length l)) l 0 j r h
+place-inside test l j r h = subst (Every (λ k. k < length l)) h (every-keep (λ k. k < length l) test (places l) (places-inside l)) .0
 
 -- ---- tables of a type
 
 body-byte : (l : List ℕ) (i k : ℕ) → past l i ≤ length l → k < word l (i + 1) → byte (bodyAt l i) k ≡ byte l (i + 3 + k)
-body-byte l i k h p = ap (λ (b : List ℕ). byte b k) (body-of l i h) ∙ getD-take (word l (i + 1)) (drop (i + 3) l) k 0 p ∙ getD-drop (i + 3) l k 0
+body-byte l i k h p = ap (λ (b : List ℕ). byte b k) (body-of l i h) ∙ byte-part l (i + 3) (word l (i + 1)) k (i + 3 + k) p refl
 
 module _ (f : File) (l : List ℕ) (t : ℕ) where
   type-step : (c : Contents) (i : ℕ) → Stands l i
@@ -163,8 +142,8 @@ module _ (cs bk : List ℕ) (c k : Contents) (hc : read case cs ≡ answer c) (h
     not-in-book e = rw (found [] bk e) (le-leb (length bk) (length bk) (omega arith))
 
     no-body : (l : List ℕ) → bodyAt l (length l) ≡ []
-    unfolding bodyAt whole
-    no-body l = let a : length l < length l + 3 = omega arith in rw (lt-ltb (length l) (length l + 3) a)
+    unfolding bodyAt
+    no-body l = rw (whole-none l (length l) (omega arith))
 
     -- the bytes that the lookup gives are those of 01's first table of the type
     pub table-first : IsFirst (tablesOf c k t) (tableBytes cs bk t)

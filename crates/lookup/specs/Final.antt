@@ -4,7 +4,6 @@ use mathlib.Core.Path.{_≡_, refl, ap, sym, _∙_}
 use mathlib.Core.Bool.{Bool, true, false, cond}
 use mathlib.Core.List.{List, map}
 use Prim.Native.Nat.{ℕ, _≤_, _<_}
-use native.Mathlib.Omega.{arith}
 use lib.ListN.{length}
 use lib.Dec.{ltb}
 use borrow.Author.Tests.{lt-ltb, le-ltb}
@@ -16,6 +15,7 @@ use Rattle.reader.specs.declared.Counts.{Counts}
 use Rattle.reader.specs.declared.Reading.{Reading}
 use Rattle.reader.specs.declared.Reading.the-variants.{Accepted, Refused}
 use Rattle.reader.specs.Answers.{countsOf, readingOf}
+use Rattle.reader.specs.Laws.{accepted-refused}
 use Rattle.reader.specs.Final.{refused-file}
 use Rattle.lookup.specs.declared.Files.the-variants.{Sound, Unsound}
 use Rattle.lookup.specs.Lookup.{tableBytes, lackingPlace}
@@ -39,7 +39,7 @@ module _ (cs bk : List ℕ) where
       go (refused q) h =
           let x : r ≡ Refused (q .number) (q .place) = e ∙ ap readingOf h in
           ap (ofFile 0) x ∙ ap (λ (f : ℕ). Unsound (q .number) f (q .place)) (sym (refused-file case cs q h))
-      go (answer c) h = let x = sym (e ∙ ap readingOf h) ∙ p in let z : _≡_ {A = ℕ} 0 1 = cc x in absurd (omega arith)
+      go (answer c) h = absurd (accepted-refused _ _ _ (sym (e ∙ ap readingOf h) ∙ p))
 
   module _ {r : Reading} {s : Counts} (e : r ≡ readingOf (read case cs)) (p : r ≡ Accepted s) where
     -- the contents of an accepted case
@@ -52,7 +52,7 @@ module _ (cs bk : List ℕ) where
     of-case = go (read case cs) refl
       where
         go : (a : Result Contents) → read case cs ≡ a → Of
-        go (refused q) h = let x = sym (e ∙ ap readingOf h) ∙ p in let z : _≡_ {A = ℕ} 0 1 = cc x in absurd (omega arith)
+        go (refused q) h = absurd (accepted-refused _ _ _ (sym p ∙ e ∙ ap readingOf h))
         go (answer c) h = let x = sym p ∙ e ∙ ap readingOf h in record { inside = c; is = h; counts = cc x }
 
     -- the book is refused
@@ -64,7 +64,7 @@ module _ (cs bk : List ℕ) where
         go (refused w) h =
             let x : q ≡ Refused (w .number) (w .place) = f ∙ ap readingOf h in
             ap (ofFile 1) x ∙ ap (λ (k : ℕ). Unsound (w .number) k (w .place)) (sym (refused-file book bk w h))
-        go (answer c) h = let x = sym (f ∙ ap readingOf h) ∙ g in let z : _≡_ {A = ℕ} 0 1 = cc x in absurd (omega arith)
+        go (answer c) h = absurd (accepted-refused _ _ _ (sym (f ∙ ap readingOf h) ∙ g))
 
     module _ {q : Reading} {u : Counts} {i : ℕ} (f : q ≡ readingOf (read book bk)) (g : q ≡ Accepted u) (h : i ≡ lackingPlace cs bk) where
       both : (x : Bool) → ltb i (length cs) ≡ x → filesOf (files cs bk) ≡ cond x (Unsound 11 0 i) (Sound (record { stations = s .stations; tracks = s .tracks; trains = s .trains }))
@@ -76,7 +76,7 @@ module _ (cs bk : List ℕ) where
           to false c k n = sym (ap (λ (w : Counts). Sound (record { stations = w .stations; tracks = w .tracks; trains = w .trains })) n)
 
           go : (a : Result Contents) → read book bk ≡ a → filesOf (then a (byTypes (of-case .inside))) ≡ cond x (Unsound 11 0 i) (Sound (record { stations = s .stations; tracks = s .tracks; trains = s .trains }))
-          go (refused w) m = let y = sym (f ∙ ap readingOf m) ∙ g in let z : _≡_ {A = ℕ} 0 1 = cc y in absurd (omega arith)
+          go (refused w) m = absurd (accepted-refused _ _ _ (sym g ∙ f ∙ ap readingOf m))
           go (answer k) m =
               ap filesOf (lacking-agrees cs bk (of-case .inside) k (of-case .is) m (caseOf (of-case .inside) k))
               ∙ rw (← h, t) (to x (of-case .inside) k (of-case .counts))

@@ -2,52 +2,21 @@
 -- that type has the train's pairs. Gathered from the case's fields, as the trains are. Assumes nothing.
 use mathlib.Core.Path.{_≡_, refl, ap, sym, _∙_}
 use mathlib.Core.List.{List, [], _∷_, map}
-use Prim.Native.Nat.{ℕ, zero, suc, _+_, _-_, _*_, _/_, _<_}
+use Prim.Native.Nat.{ℕ, zero, suc, _+_, _<_}
 use native.Mathlib.Omega.{arith}
-use lib.ListN.{length, getD, drop, length-map}
+use lib.ListN.{length, getD, length-map}
 use lib.Dec.{eqb}
-use Rattle.rules.specs.Lists.{span, below}
-use Rattle.rules.specs.Refusals.{Result, then}
-use Rattle.rules.specs.Refusals.Result.{refused, answer}
-use Rattle.rules.specs.Files.{Contents, Case, Pair, Table, Train, byte, pairOf, tableOf, trainOf, read, tablesOf, firstPairs, lacking, caseOf, files}
+use Rattle.rules.specs.Refusals.Result.{answer}
+use Rattle.rules.specs.Files.{Contents, Case, Pair, Table, Train, byte, tableOf, trainOf, read, tablesOf, firstPairs, caseOf, files}
 use Rattle.rules.specs.Files.File.{case, book}
+use Rattle.sound.specs.Accepted.{accepted-reads}
 use Rattle.fields.specs.Fields.{bodyAt, places}
 use Rattle.reader.specs.Decoded.{trains-decoded}
 use Rattle.lookup.specs.Lookup.{tableBytes, trainPlaces, trainPlace}
 use Rattle.lookup.specs.Answers.{IsFirst, TrainTable}
 use Rattle.lookup.specs.Agree.{each-keep, table-first, of-train}
 
--- ---- the two readings behind a sound case
-
-pub record Both (cs bk : List ℕ) (C : Case) : Type 0 where
-  pub inCase : Contents
-  pub inBook : Contents
-  pub of-case : read case cs ≡ answer inCase
-  pub of-book : read book bk ≡ answer inBook
-  pub is : C ≡ caseOf inCase inBook
-
--- a case in which no train lacks a table is as it was
-lacking-answer : (ds : List (List Table)) (ts : List Train) (C D : Case) → lacking ds ts C ≡ answer D → D ≡ C
-lacking-answer [] ts C D h = cc
-lacking-answer (d ∷ ds) [] C D h = cc
-lacking-answer ([] ∷ ds) (t ∷ ts) C D h = let z : _≡_ {A = ℕ} 0 1 = cc in absurd (omega arith)
-lacking-answer ((d ∷ e) ∷ ds) (t ∷ ts) C D h = lacking-answer ds ts C D h
-
-pub both : (cs bk : List ℕ) (C : Case) → files cs bk ≡ answer C → Both cs bk C
-unfolding files
-both cs bk C h = go (read case cs) (read book bk) refl refl h
-  where
-    go : (a b : Result Contents) → read case cs ≡ a → read book bk ≡ b
-        → then a (λ c. then b (λ k. lacking (map (λ (t : Train). tablesOf c k (t .type)) (c .trains)) (c .trains) (caseOf c k))) ≡ answer C → Both cs bk C
-    go (refused r) b p q h = let z : _≡_ {A = ℕ} 0 1 = cc in absurd (omega arith)
-    go (answer c) (refused r) p q h = let z : _≡_ {A = ℕ} 0 1 = cc in absurd (omega arith)
-    go (answer c) (answer k) p q h = record { inCase = c; inBook = k; of-case = p; of-book = q; is = lacking-answer (map (λ (t : Train). tablesOf c k (t .type)) (c .trains)) (c .trains) (caseOf c k) C h }
-
 -- ---- lists
-
-span-length : (n k : ℕ) → length (span n k) ≡ n
-span-length zero k = refl
-span-length (suc n) k = ap suc (span-length n (suc k))
 
 getD-map : {A B : Type 0} (f : A → B) (l : List A) (j : ℕ) (d : A) (e : B) → j < length l → getD (map f l) j e ≡ f (getD l j d)
 getD-map f [] j d e h = absurd (omega arith)
@@ -55,10 +24,6 @@ getD-map f (a ∷ l) zero d e h = refl
 getD-map f (a ∷ l) (suc j) d e h = getD-map f l j d e (omega arith)
 
 -- ---- pairs
-
-pub pairs-count : (b : List ℕ) → length (tableOf b .pairs) ≡ (length b - 1) / 2
-unfolding tableOf
-pairs-count b = length-map (below ((length b - 1) / 2)) (λ k. pairOf (drop (1 + 2 * k) b)) ∙ span-length ((length b - 1) / 2) 0
 
 first-pairs : (ds : List Table) (b : List ℕ) → IsFirst ds b → tableOf b .pairs ≡ firstPairs ds
 unfolding tableOf
@@ -95,9 +60,9 @@ pub case-pairs : (cs bk : List ℕ) (C : Case) → files cs bk ≡ answer C → 
     → tableOf (tableBytes cs bk (byte cs (trainPlace cs j + 4))) .pairs ≡ getD (C .tables) j []
 unfolding caseOf
 case-pairs cs bk C h j k =
-    let w = both cs bk C h in
-    let n : length (C .trains) ≡ length (w .inCase .trains) = ap (λ (D : Case). length (D .trains)) (w .is) in
-    train-pairs cs bk (w .inCase) (w .inBook) (w .of-case) (w .of-book) j (omega arith) ∙ sym (ap (λ (D : Case). getD (D .tables) j []) (w .is))
+    let w = accepted-reads cs bk C h in
+    let n : length (C .trains) ≡ length (w .of-case .trains) = ap (λ (D : Case). length (D .trains)) (w .assembled) in
+    train-pairs cs bk (w .of-case) (w .of-book) (w .case-read) (w .book-read) j (omega arith) ∙ sym (ap (λ (D : Case). getD (D .tables) j []) (w .assembled))
 
 pub train-table : {cs bk : List ℕ} {k : ℕ} {b : List ℕ} → b ≡ tableBytes cs bk (byte cs (trainPlace cs k + 4)) → TrainTable cs bk k b
 train-table {cs} {bk} {k} {b} h = record { bytes = h; pairs = λ C q j. rw h (case-pairs cs bk C q k j) }

@@ -6,7 +6,6 @@ use mathlib.Core.List.{List, [], _∷_, _++_, map, append-nil}
 use Prim.Native.Nat.{ℕ, suc, _+_, _≤_, _<_}
 use native.Mathlib.Omega.{arith}
 use lib.ListN.{length, getD, set}
-use borrow.Author.Tests.{not-true}
 use Rattle.rules.specs.Lists.{any, below}
 use Rattle.rules.specs.Files.{Stop, Case}
 use Rattle.rules.specs.Turns.{Place, same, Mark, block, Leg, leg, trainAt, way, after, ahead, headIs, ended, asks, dueAgain, leaving, entered, State, state, Rules}
@@ -39,7 +38,6 @@ onWay C k p = any (λ l. same (l .place) p) (leg outside 0 ∷ way C k)
 pub record Bounded (C : Case) (m : Mark) : Type 0 where
   pub of-case : m .train < length (C .trains)
   pub on-way : onWay C (m .train) (m .place) ≡ true
-  pub free-outside : same (m .place) outside ≡ true → m .blocks ≡ false
   pub in-time : m .minute ≤ 1438
 
 -- every item of the list shows a bounded mark
@@ -96,14 +94,12 @@ module _ (C : Case) (sound : Sound C) where
     record {
       of-case = b .of-case;
       on-way = ahead-on (m .train) (m .place) e (asked C t e m ask .goes);
-      free-outside = λ q. refl;
       in-time = omega (arith, h, sound .in-window, planned-low (C .head .lastMinute) e (way C (m .train)) (way-planned C sound (m .train)));
     },
     every-one (Bounded C) (not (same (m .place) outside)) (block (m .train) (m .place) (t + C .head .safety))
         (λ q. record {
           of-case = b .of-case;
           on-way = b .on-way;
-          free-outside = λ r. absurd (false≢true (sym (not-true (same (m .place) outside) q) ∙ r));
           in-time = omega (arith, h, sound .in-window, sound .head-sound .short-safety);
         }),
   )
@@ -167,7 +163,6 @@ module _ (C : Case) (sound : Sound C) where
     waits-bounded k d h = record {
       of-case = h;
       on-way = ap (λ (z : Bool). z || any (λ l. same (l .place) outside) (way C k)) (same-self outside);
-      free-outside = λ q. refl;
       in-time = omega (arith, sound .in-window, arrival-low k, delay-low k d);
     }
 

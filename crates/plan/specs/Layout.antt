@@ -1,71 +1,33 @@
 -- Where the things of an accepted case stand: the head, 4 bytes a station, 6 bytes a track, and then the trains one after another.
 -- Each accepted field keeps this of the file as far as it was read, and a train's field says what its bytes say. Assumes nothing.
-use mathlib.Core.Path.{_≡_, refl, ap, ap₂, sym, _∙_, subst}
+use mathlib.Core.Path.{_≡_, refl, ap, ap₂, sym, _∙_}
 use mathlib.Core.Bool.{Bool, true, false, cond, not, _&&_, false≢true}
 use mathlib.Core.List.{List, [], _∷_, _++_, map, append-nil}
 use Prim.Native.Nat.{ℕ, zero, suc, _+_, _-_, _*_, _/_, _≤_, _<_}
 use native.Mathlib.Nat.{not-suc-le-zero, add-zero, zero-add, mul-zero, mul-suc}
 use native.Mathlib.Omega.{arith}
 use lib.ListN.{length, drop, length-drop, length-take}
-use lib.Seq.{getD-take, getD-drop, drop-drop}
+use lib.Seq.{getD-drop}
 use lib.Dec.{leb, eqb}
 use borrow.Author.Tests.{eqb-false, leb-true}
 use Rattle.rules.specs.Lists.{has, span}
-use Rattle.rules.specs.Refusals.{verdict}
 use Rattle.rules.specs.Refusals.Result.{answer}
-use Rattle.rules.specs.Files.{Head, Track, Stop, Train, Contents, File, fileNumber, byte, word, headOf, trackOf, stopOf, trainOf, known, inPlace, lengths, size, body, fieldRules, more, endRules, readField, readFields, empty, read}
+use Rattle.rules.specs.Files.{Head, Track, Stop, Train, Contents, byte, word, headOf, trackOf, stopOf, trainOf, known, inPlace, lengths, size, body, more, empty, read}
 use Rattle.rules.specs.Files.File.{case}
 use Rattle.lists.specs.Every.{has-every}
-use Rattle.sound.specs.Verdicts.{answer-answer, unless-answer, Field, field-accepted, withField}
+use Rattle.sound.specs.Verdicts.{Field, field-accepted, withField}
 use Rattle.sound.specs.Kept.{head-first}
 use Rattle.fields.specs.Fields.{past}
+use Rattle.fields.specs.At.{byte-part, size-here, body-here}
+use Rattle.reader.specs.Along.{read-along}
 use Rattle.plan.specs.Model.{onward, gather, trackIn, tracksFrom, stopIn, stopsAt, trainIn, trackPlace, trainPlace}
 use Rattle.plan.specs.Fills.{onward-more, gather-more}
-
--- ---- what each accepted field keeps, of the whole file
-
-module _ (f : File) (w : List ℕ) (P : ℕ → Contents → Type 0)
-    (step : (c : Contents) (at : ℕ) → Field f c at (drop at w) → P at c → P (past w at) (withField c at (drop at w))) where
-  size-here : (at : ℕ) → size (drop at w) ≡ word w (at + 1)
-  size-here at =
-      let a = getD-drop at w 1 0 in
-      let b = getD-drop at w 2 0 in
-      let e : at + 2 ≡ at + 1 + 1 = omega arith in
-      ap₂ (λ (x y : ℕ). x * 256 + y) a (b ∙ ap (byte w) e)
-
-  file-keeps : (n at : ℕ) (c k : Contents) → at ≤ length w → length w - at < n → P at c → readFields n f at (drop at w) c ≡ answer k → P (length w) k
-  unfolding readFields readField
-  file-keeps zero at c k a h p e = absurd (not-suc-le-zero h)
-  file-keeps (suc n) at c k a h p e = go (drop at w) refl e (file-keeps n)
-    where
-      go : (l : List ℕ) → drop at w ≡ l → readField (readFields n f) f at l c ≡ answer k
-          → ((at : ℕ) (c k : Contents) → at ≤ length w → length w - at < n → P at c → readFields n f at (drop at w) c ≡ answer k → P (length w) k) → P (length w) k
-      go [] q e ih =
-          let u = unless-answer (verdict (endRules f c)) (fileNumber f) at answer c k e in
-          let s : at ≡ length w = omega (arith, ap length q, length-drop at w) in
-          subst (λ (m : ℕ). P m k) s (subst (λ (x : Contents). P at x) (answer-answer c k (u .1)) p)
-      go (b ∷ l) q e ih =
-          let u = unless-answer (verdict (fieldRules f c at (b ∷ l))) (fileNumber f) at (readFields n f (at + (3 + size (b ∷ l))) (drop (3 + size (b ∷ l)) (b ∷ l))) (withField c at (b ∷ l)) k e in
-          let d : Field f c at (drop at w) = subst (Field f c at) (sym q) (field-accepted f c at (b ∷ l) (u .0)) in
-          let z = size-here at in
-          let o : at + (3 + size (b ∷ l)) ≡ past w at = omega (arith, z, ap size q) in
-          let r : drop (3 + size (b ∷ l)) (b ∷ l) ≡ drop (past w at) w = ap (drop (3 + size (b ∷ l))) (sym q) ∙ drop-drop (3 + size (b ∷ l)) at w ∙ ap (λ (m : ℕ). drop m w) o in
-          let m = length-drop at w in
-          let y = d .whole in
-          ih (past w at) (withField c at (drop at w)) k (omega arith) (omega arith) (step c at d p)
-          (rw (q) (rw (o, r) at (u .1)))
-
-  pub read-keeps-file : (k : Contents) → P 0 empty → read f w ≡ answer k → P (length w) k
-  unfolding read
-  read-keeps-file k p e = file-keeps (suc (length w)) 0 empty k (omega arith) (omega arith) p e
 
 -- ---- what a body says is what the file says there
 
 module _ (w : List ℕ) (at : ℕ) where
   body-byte : (i j : ℕ) → i < size (drop at w) → at + 3 + i ≡ j → byte (body (drop at w)) i ≡ byte w j
-  body-byte i j h e =
-      let q : at + (3 + i) ≡ j = omega arith in
-      getD-take (size (drop at w)) (drop 3 (drop at w)) i 0 h ∙ getD-drop 3 (drop at w) i 0 ∙ getD-drop at w (3 + i) 0 ∙ ap (byte w) q
+  body-byte i j h e = ap (λ (b : List ℕ). byte b i) (body-here w at) ∙ byte-part w (at + 3) (word w (at + 1)) i j (omega (arith, size-here w at)) e
 
   body-word : (i j : ℕ) → i + 1 < size (drop at w) → at + 3 + i ≡ j → word (body (drop at w)) i ≡ word w j
   body-word i j h e = ap₂ (λ (x y : ℕ). x * 256 + y) (body-byte i j (omega arith) e) (body-byte (i + 1) (j + 1) h (omega arith))
@@ -186,7 +148,7 @@ module _ (w : List ℕ) (c : Contents) (at : ℕ) (d : Field case c at (drop at 
   Step t = inPlace case c t ≡ true → has (lengths t) (size l) ≡ true → Laid w (past w at) (more c at t b)
 
   z : size l ≡ word w (at + 1)
-  z = size-here case w (λ _ _. Unit {0}) (λ _ _ _ _. tt) at
+  z = size-here w at
 
   abbrev none : {A : Type 0} (a : List A) → a ++ [] ≡ a
   none a = append-nil a
@@ -309,4 +271,4 @@ module _ (w : List ℕ) (c : Contents) (at : ℕ) (d : Field case c at (drop at 
 
 -- of an accepted case
 pub case-laid : (w : List ℕ) (c : Contents) → read case w ≡ answer c → Laid w (length w) c
-case-laid w c h = read-keeps-file case w (Laid w) (λ c at d p. laid-step w c at d p) c (laid-empty w) h
+case-laid w c h = read-along case w (Laid w) (λ c at v p. laid-step w c at (field-accepted case c at (drop at w) v) p) c (laid-empty w) h .0

@@ -7,7 +7,7 @@ use Prim.Native.Nat.{ℕ, zero, suc, _+_, _-_, _*_, _/_, _≤_, _<_}
 use native.Mathlib.Nat.{add-zero, zero-add, mul-suc, mul-zero, add-comm}
 use native.Mathlib.Omega.{arith}
 use lib.ListN.{length, getD, drop, replicate, getD-replicate, List·getD-append, List·getD-eq-default, replicate-append-replicate}
-use lib.Seq.{getD-append-add, getD-drop, ext-getD}
+use lib.Seq.{getD-append-add, ext-getD}
 use lib.Dec.{ltb, eqb}
 use borrow.Author.Tests.{lt-ltb, ltb-true, ltb-false}
 use Rattle.rules.specs.Lists.{each, fold, span, below}
@@ -19,7 +19,8 @@ use Rattle.rules.specs.Figures.{plan}
 use Rattle.codes.specs.Codes.{codeOf, placeOf}
 use Rattle.codes.specs.Tables.{insert, order, perTrain, perPair}
 use Rattle.fields.specs.Fields.{past}
-use Rattle.lookup.specs.Tables.{pairs-count}
+use Rattle.fields.specs.At.{byte-drop}
+use Rattle.sound.specs.Bodies.{pairs-count}
 use Rattle.lists.specs.Below.{getD-below, length-span-map}
 use Rattle.plan.specs.Model.{onward, gather, rows, trackIn, trainIn, stopWord, pairsIn, tableIn, trainWord, pairWord, pairRow, capacityWord, priorityOf, insertBy, orderBy, trainRow, pairPart, capacityPart, trackPlace, trainPlace}
 use Rattle.plan.specs.Fills.{length-gather, getD-gather, onward-zero, order-length, pad-length}
@@ -179,9 +180,7 @@ one-value f v (suc m) i h = ap₂ (λ (a : ℕ) (l : List ℕ). a ∷ l) (h i) (
 
 delay-byte : (b : List ℕ) (i : ℕ) → pairOf (drop (1 + 2 * i) b) .delay ≡ byte b (1 + 2 * i)
 unfolding pairOf
-delay-byte b i =
-    let e : 1 + 2 * i + 0 ≡ 1 + 2 * i = omega arith in
-    getD-drop (1 + 2 * i) b 0 0 ∙ ap (byte b) e
+delay-byte b i = byte-drop b (1 + 2 * i) 0 (1 + 2 * i) (omega arith)
 
 module _ (cs bk : List ℕ) (C : Case) (s r n : ℕ) (D : Decoded cs bk C s r n) where
   pairs-part : (get : Pair → ℕ) (which : ℕ) → ((b : List ℕ) (i : ℕ) → get (pairOf (drop (1 + 2 * i) b)) ≡ byte b (which + 2 * i)) → get (record { delay = 0; weight = 0 }) ≡ 0
@@ -213,7 +212,7 @@ module _ (cs bk : List ℕ) (C : Case) (s r n : ℕ) (D : Decoded cs bk C s r n)
 
   pub weights-part : perPair C (λ k d. pairAt C k d .weight) ≡ pairPart cs bk n (trainPlace s r) 2
   unfolding pairOf
-  weights-part = pairs-part (λ p. p .weight) 2 (λ b i. getD-drop (1 + 2 * i) b 1 0 ∙ (let e : 1 + 2 * i + 1 ≡ 2 + 2 * i = omega arith in ap (byte b) e)) refl
+  weights-part = pairs-part (λ p. p .weight) 2 (λ b i. byte-drop b (1 + 2 * i) 1 (2 + 2 * i) (omega arith)) refl
 
   -- ---- capacities
 

@@ -9,7 +9,7 @@ use lib.ListN.{length, getD, set, replicate, length-set, getD-replicate, List·g
 use lib.Seq.{getD-set-same, getD-set-other, getD-append-add}
 use Rattle.rules.specs.Files.{Track, Stop}
 use Rattle.rules.specs.Turns.{Place, same, Leg, leg, legs, after, plannedOn}
-use Rattle.rules.specs.Turns.Place.{outside, station}
+use Rattle.rules.specs.Turns.Place.{outside}
 use Rattle.lists.specs.Every.{Every}
 use Rattle.sound.specs.Ways.{same-true, same-self, Off, Apart}
 use Rattle.codes.specs.Codes.{codeOf, placeOf, nowhere}

@@ -1,4 +1,3 @@
-pub mod Runs
 pub mod Memory
 pub mod Promises
 pub mod Engine

@@ -23,7 +23,7 @@ use Rattle.trace.specs.Trace.{runLists}
 use Rattle.trace.specs.Longest.{passes}
 use Rattle.weights.specs.Room.{list-fits}
 use Rattle.demands.specs.Demands.{demand-3, demand-2, demand-2-later, demand-2-not-arrived, room-askers}
-use Rattle.promises.specs.Runs.{Answered, stopped-answer, whole-answer, train-answer}
+use Rattle.sound.specs.Runs.{Answered, stopped-answer, whole-answer, train-answer}
 use Rattle.promises.specs.Memory.{memory, cleared, written, call-short, call-refused, call-answered}
 
 -- ---- demand 1: all inputs, and every byte of lent memory

@@ -2,26 +2,27 @@
 -- goes on holding what the contents say. Assumes nothing.
 use mathlib.Core.Path.{_≡_, refl, ap, sym, _∙_}
 use mathlib.Core.Bool.{Bool, true, false, cond, _||_}
-use mathlib.Core.List.{List, [], _∷_}
-use Prim.Native.Nat.{ℕ, zero, suc, _+_, _-_, _<_}
+use mathlib.Core.List.{List}
+use Prim.Native.Nat.{ℕ, zero, suc, _+_, _<_}
 use native.Mathlib.Omega.{arith}
-use lib.ListN.{length, drop, length-drop, drop-of-length-le}
-use lib.Seq.{drop-drop}
+use lib.ListN.{length, drop, drop-of-length-le}
 use lib.Dec.{leb, eqb}
 use borrow.Author.Tests.{leb-true, leb-false}
 use Rattle.rules.specs.Refusals.{Result, verdict, firstOf, unless}
 use Rattle.rules.specs.Refusals.Result.{answer}
-use Rattle.rules.specs.Files.{File, Contents, byte, size, body, fileNumber, fieldRules, more, endRules, readField, readFields, empty, read}
+use Rattle.rules.specs.Files.{File, Contents, fileNumber, more, endRules, readField, readFields, empty, read}
 use Rattle.rules.specs.Files.File.{case, book}
+use Rattle.fields.specs.Fields.{past}
+use Rattle.fields.specs.At.{read-here}
 use Rattle.bodies.specs.Bodies.{joined}
 use Rattle.bodies.specs.Search.{any-none}
 use Rattle.reader.specs.declared.Seen.{Seen}
 use Rattle.reader.specs.declared.Reading.the-variants.{Accepted, Refused}
-use Rattle.reader.specs.Reading.{tagOf, sizeOf, bodyOf, fieldVerdict, after, next, judged, fieldOf, countsSeen, atEnd, turn, readFrom, start, reading}
+use Rattle.reader.specs.Reading.{tagOf, bodyOf, fieldVerdict, after, next, judged, fieldOf, countsSeen, atEnd, turn, readFrom, start, reading}
 use Rattle.reader.specs.Facts.{Within}
 use Rattle.reader.specs.Laws.{within-start, within-next}
 use Rattle.reader.specs.Places.{placed-start}
-use Rattle.reader.specs.Holds.{isBook, OfFile, Holds, same-zero, tag-here, size-here, field-agrees}
+use Rattle.reader.specs.Holds.{isBook, OfFile, Holds, same-zero, field-agrees}
 use Rattle.reader.specs.More.{holds-next}
 use Rattle.reader.specs.Answers.{countsOf, readingOf}
 
@@ -45,38 +46,23 @@ end-agrees book l s c h = ap Accepted (counts-same book l s c h)
 
 -- ---- one field and those after it
 
-pub read-front : (go : ℕ → List ℕ → Contents → Result Contents) (f : File) (at : ℕ) (m : List ℕ) (c : Contents) → 0 < length m
-    → readField go f at m c ≡ unless (verdict (fieldRules f c at m)) (fileNumber f) at (go (at + (3 + size m)) (drop (3 + size m) m)) (more c at (byte m 0) (body m))
-unfolding readField
-read-front go f at [] c h = absurd (omega arith)
-read-front go f at (b ∷ m) c h = refl
-
-pub next-place : (l : List ℕ) (s : Seen) → next l s .at ≡ s .at + (3 + sizeOf l s)
-unfolding next after
-next-place l s = omega arith
-
--- the same, at a place of the file
-pub read-here : (go : ℕ → List ℕ → Contents → Result Contents) (f : File) (l : List ℕ) (s : Seen) (c : Contents) → Holds f l s c → Within l s → s .at < length l
+-- the reading of a field goes on past it, by the state's verdict
+read-seen : (go : ℕ → List ℕ → Contents → Result Contents) (f : File) (l : List ℕ) (s : Seen) (c : Contents) → Holds f l s c → Within l s → s .at < length l
     → readField go f (s .at) (drop (s .at) l) c
-    ≡ unless (fieldVerdict (isBook f) l s) (fileNumber f) (s .at) (go (s .at + (3 + sizeOf l s)) (drop (s .at + (3 + sizeOf l s)) l)) (more c (s .at) (tagOf l s) (bodyOf l s))
-read-here go f l s c h w k =
-    read-front go f (s .at) (drop (s .at) l) c (omega (arith, length-drop (s .at) l))
-    ∙ rw (field-agrees f l s c h w, size-here f l s c h w, tag-here f l s c h w, drop-drop 3 (s .at) l, drop-drop (3 + sizeOf l s) (s .at) l)
+    ≡ unless (fieldVerdict (isBook f) l s) (fileNumber f) (s .at) (go (past l (s .at)) (drop (past l (s .at)) l)) (more c (s .at) (tagOf l s) (bodyOf l s))
+read-seen go f l s c h w k = read-here l (s .at) go f c k ∙ rw (field-agrees f l s c h w)
 
 agrees : (f : File) (l : List ℕ) (n : ℕ) (s : Seen) (c : Contents) → Holds f l s c → Within l s → length l < s .at + n
     → readFrom n (isBook f) l s ≡ readingOf (readFields n f (s .at) (drop (s .at) l) c)
-unfolding readFrom readFields readField fieldOf
+unfolding readFrom readFields readField fieldOf next after
 agrees f l zero s c h w k = absurd (omega arith)
 agrees f l (suc n) s c h w k = go (leb (length l) (s .at)) refl (λ t d. agrees f l n t d)
   where
     rest : (v : ℕ) → fieldVerdict (isBook f) l s ≡ v → s .at < length l
         → ((t : Seen) (d : Contents) → Holds f l t d → Within l t → length l < t .at + n → readFrom n (isBook f) l t ≡ readingOf (readFields n f (t .at) (drop (t .at) l) d))
         → turn (readFrom n (isBook f) l) (s .at) (judged v (next l s))
-        ≡ readingOf (unless v (fileNumber f) (s .at) (readFields n f (s .at + (3 + sizeOf l s)) (drop (s .at + (3 + sizeOf l s)) l)) (more c (s .at) (tagOf l s) (bodyOf l s)))
-    rest zero e p ih =
-        let far : next l s .at ≡ s .at + (3 + sizeOf l s) = next-place l s in
-        ih (next l s) (more c (s .at) (tagOf l s) (bodyOf l s)) (holds-next f l s c h w e) (within-next l (isBook f) s w e) (omega arith)
-        ∙ ap (λ (i : ℕ). readingOf (readFields n f i (drop i l) (more c (s .at) (tagOf l s) (bodyOf l s)))) far
+        ≡ readingOf (unless v (fileNumber f) (s .at) (readFields n f (past l (s .at)) (drop (past l (s .at)) l)) (more c (s .at) (tagOf l s) (bodyOf l s)))
+    rest zero e p ih = ih (next l s) (more c (s .at) (tagOf l s) (bodyOf l s)) (holds-next f l s c h w e) (within-next l (isBook f) s w e) (omega arith)
     rest (suc v) e p ih = refl
 
     go : (b : Bool) → leb (length l) (s .at) ≡ b
@@ -88,7 +74,7 @@ agrees f l (suc n) s c h w k = go (leb (length l) (s .at)) refl (λ t d. agrees 
         rw (p, drop-of-length-le l a) (end-agrees f l s c h)
     go false e ih =
         let a = leb-false (length l) (s .at) e in
-        rest (fieldVerdict (isBook f) l s) refl a ih ∙ sym (ap readingOf (read-here (readFields n f) f l s c h w a))
+        rest (fieldVerdict (isBook f) l s) refl a ih ∙ sym (ap readingOf (read-seen (readFields n f) f l s c h w a))
 
 -- nothing read yet
 pub holds-start : (f : File) (l : List ℕ) → Holds f l start empty

@@ -3,7 +3,7 @@
 use mathlib.Core.Path.{_≡_, refl}
 use mathlib.Core.Bool.{Bool, true, false, cond}
 use mathlib.Core.List.{List}
-use Prim.Native.Nat.{ℕ, zero, suc, _+_, _-_, _≤_, _<_}
+use Prim.Native.Nat.{ℕ, zero, suc, _+_, _≤_, _<_}
 use native.Mathlib.Omega.{arith}
 use lib.ListN.{length}
 use lib.Dec.{leb, eqb}
@@ -14,19 +14,19 @@ use Rattle.reader.specs.declared.Judged.the-variants.{Sound, Unsound}
 use Rattle.reader.specs.declared.Reading.the-variants.{Accepted, Refused}
 use Rattle.reader.specs.Reading.{fieldVerdict, next, judged, fieldOf, countsSeen, atEnd, turn, readFrom, start, reading}
 use Rattle.reader.specs.Facts.{Within}
-use Rattle.reader.specs.Laws.{passes, within-start}
+use Rattle.reader.specs.Laws.{sound-unsound, accepted-refused, passes, within-start}
 
 -- a refusal at the end is 5, at the file's length
 end-refused : (book : Bool) (size : ℕ) (s : Seen) (k i : ℕ) → atEnd book size s ≡ Refused k i → (k ≡ 5) × (i ≡ size)
 unfolding atEnd
-end-refused true size s k i h = let z : _≡_ {A = ℕ} 0 1 = cc in absurd (omega arith)
+end-refused true size s k i h = absurd (accepted-refused (countsSeen s) k i h)
 end-refused false size s k i h = go (eqb (s .heads) 0) (eqb (s .stations) 0) (eqb (s .trains) 0) h
   where
     go : (a b c : Bool) → cond a (Refused 5 size) (cond b (Refused 5 size) (cond c (Refused 5 size) (Accepted (countsSeen s)))) ≡ Refused k i → (k ≡ 5) × (i ≡ size)
     go true b c h = (cc, cc)
     go false true c h = (cc, cc)
     go false false true h = (cc, cc)
-    go false false false h = let z : _≡_ {A = ℕ} 0 1 = cc in absurd (omega arith)
+    go false false false h = absurd (accepted-refused (countsSeen s) k i h)
 
 -- the number of a field that is not sound is not 0
 unsound-no : (book : Bool) (l : List ℕ) (s : Seen) (k : ℕ) → fieldOf book l s ≡ Unsound k → 1 ≤ k
@@ -34,7 +34,7 @@ unfolding fieldOf
 unsound-no book l s k h = go (fieldVerdict book l s) h
   where
     go : (n : ℕ) → judged n (next l s) ≡ Unsound k → 1 ≤ k
-    go zero h = let z : _≡_ {A = ℕ} 0 1 = cc in absurd (omega arith)
+    go zero h = absurd (sound-unsound (next l s) k h)
     go (suc n) h = let z : suc n ≡ k = cc in omega arith
 
 module _ (book : Bool) (l : List ℕ) where

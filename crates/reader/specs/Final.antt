@@ -1,13 +1,13 @@
 -- What is promised of a refusal of 01's reading: it has a number, its place is within the file, and it names the file that was read.
 -- The first two are carried over from the reading by offset. Assumes nothing.
-use mathlib.Core.Path.{_≡_, refl, ap, _∙_}
+use mathlib.Core.Path.{_≡_, ap, sym, _∙_}
 use mathlib.Core.List.{List, [], _∷_}
-use Prim.Native.Nat.{ℕ, zero, suc, _+_, _≤_}
-use native.Mathlib.Omega.{arith}
-use lib.ListN.{length, drop}
-use Rattle.rules.specs.Refusals.{Result, Refusal, verdict, unless}
+use Prim.Native.Nat.{ℕ, zero, suc, _≤_}
+use lib.ListN.{length}
+use Rattle.rules.specs.Refusals.{Refusal, verdict}
 use Rattle.rules.specs.Refusals.Result.{refused, answer}
-use Rattle.rules.specs.Files.{File, Contents, fileNumber, size, body, fieldRules, endRules, more, readField, readFields, empty, read}
+use Rattle.rules.specs.Files.{File, Contents, fileNumber, fieldRules, endRules, readField, readFields, empty, read}
+use Rattle.sound.specs.Verdicts.{refused-answer, unless-refused}
 use Rattle.reader.specs.declared.Reading.the-variants.{Refused}
 use Rattle.reader.specs.Reading.{reading}
 use Rattle.reader.specs.Bounds.{refused-place}
@@ -25,17 +25,17 @@ module _ (f : File) (l : List ℕ) where
 
 -- ---- the file of a refusal
 
-unless-file : {A B : Type 0} (v n i : ℕ) (go : A → Result B) (a : A) (r : Refusal) → unless v n i go a ≡ refused r → (go a ≡ refused r → r .file ≡ n) → r .file ≡ n
-unless-file zero n i go a r h k = k h
-unless-file (suc v) n i go a r h k = cc
-
 fields-file : (n : ℕ) (f : File) (at : ℕ) (l : List ℕ) (c : Contents) (r : Refusal) → readFields n f at l c ≡ refused r → r .file ≡ fileNumber f
 unfolding readFields readField
-fields-file zero f at l c r h = let z : _≡_ {A = ℕ} 0 1 = cc in absurd (omega arith)
-fields-file (suc n) f at [] c r h = unless-file (verdict (endRules f c)) (fileNumber f) at answer c r h (λ q. let z : _≡_ {A = ℕ} 0 1 = cc in absurd (omega arith))
+fields-file zero f at l c r h = absurd (refused-answer r c (sym h))
+fields-file (suc n) f at [] c r h =
+    unless-refused _ (verdict (endRules f c)) (fileNumber f) at answer c r h
+    (λ v q. absurd (refused-answer r c (sym q)))
+    (λ v q. sym (ap (λ (s : Refusal). s .file) q))
 fields-file (suc n) f at (b ∷ l) c r h =
-    unless-file (verdict (fieldRules f c at (b ∷ l))) (fileNumber f) at _ (more c at b (body (b ∷ l))) r h
-    (λ q. fields-file n f (at + (3 + size (b ∷ l))) (drop (3 + size (b ∷ l)) (b ∷ l)) (more c at b (body (b ∷ l))) r q)
+    unless-refused _ (verdict (fieldRules f c at (b ∷ l))) (fileNumber f) at _ _ r h
+    (λ v q. fields-file n f _ _ _ r q)
+    (λ v q. sym (ap (λ (s : Refusal). s .file) q))
 
 pub refused-file : (f : File) (l : List ℕ) (r : Refusal) → read f l ≡ refused r → r .file ≡ fileNumber f
 unfolding read

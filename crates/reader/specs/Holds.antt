@@ -1,21 +1,23 @@
 -- What the small state of a reading says of the contents read so far, and that the verdict on the next field is then that of 01's rules:
 -- each rule speaks of the contents only through counts, the last minute, the tracks and the types, which the state has too. Assumes nothing.
 use mathlib.Core.Path.{_≡_, refl, ap, sym, _∙_}
-use mathlib.Core.Bool.{Bool, true, false, cond, not, _&&_, _||_, true≢false}
+use mathlib.Core.Bool.{Bool, true, false, cond, not, _&&_, _||_}
 use mathlib.Core.List.{List}
 use Prim.Native.Nat.{ℕ, zero, suc, _+_, _-_, _*_, _/_, _≤_, _<_}
 use native.Mathlib.Omega.{arith}
-use lib.ListN.{length, getD, take, drop, length-take, length-drop}
+use lib.ListN.{length, getD, take, drop, length-drop}
 use lib.Seq.{getD-take, drop-drop}
 use lib.Dec.{leb, ltb, eqb}
 use borrow.Author.Tests.{lt-ltb, le-ltb, eq-eqb, ne-eqb, ltb-true, ltb-false, leb-true, leb-false, eqb-true, eqb-false}
 use Rattle.rules.specs.Lists.{any}
 use Rattle.rules.specs.Refusals.{verdict, firstOf}
-use Rattle.rules.specs.Files.{File, Head, Track, Contents, headOf, trackOf, byte, word, size, known, inPlace, most, howMany, leads, bodyRules, fieldRules}
+use Rattle.rules.specs.Files.{File, Head, Track, Contents, headOf, trackOf, byte, word, known, inPlace, most, howMany, leads, bodyRules, fieldRules}
 use Rattle.rules.specs.Files.File.{case, book}
+use Rattle.lists.specs.Tests.{or-false-first, or-false-second}
+use Rattle.fields.specs.At.{word-drop, length-part, tag-here, size-here}
 use Rattle.bodies.specs.Bodies.{ends, joined, badLength}
 use Rattle.bodies.specs.Search.{any-same}
-use Rattle.bodies.specs.Agree.{byte-drop, word-drop, head-agrees, station-agrees, track-agrees, train-agrees, table-agrees, length-agrees}
+use Rattle.bodies.specs.Agree.{head-agrees, station-agrees, track-agrees, train-agrees, table-agrees, length-agrees}
 use Rattle.reader.specs.declared.Seen.{Seen}
 use Rattle.reader.specs.Reading.{outOfPlace, tooMany, frameVerdict, base, bodyVerdict, orElse, tagOf, sizeOf, bodyOf, fieldVerdict}
 use Rattle.reader.specs.Facts.{Within}
@@ -67,10 +69,6 @@ known-agrees (suc (suc (suc (suc (suc zero))))) = refl
 known-agrees (suc (suc (suc (suc (suc (suc n)))))) =
     let t : ℕ = suc (suc (suc (suc (suc (suc n))))) in
     rw (ne-eqb t 1 (λ q. omega arith), ne-eqb t 2 (λ q. omega arith), ne-eqb t 3 (λ q. omega arith), ne-eqb t 4 (λ q. omega arith), ne-eqb t 5 (λ q. omega arith), ne-eqb t 0 (λ q. omega arith), lt-ltb 5 t (omega arith))
-
-either-none : (a b : Bool) → a || b ≡ false → (a ≡ false) × (b ≡ false)
-either-none true b h = absurd (true≢false h)
-either-none false b h = (refl, h)
 
 not-least : (a b : ℕ) → not (leb a b) ≡ ltb b a
 not-least a b = go (leb a b) refl
@@ -159,34 +157,24 @@ left-test l at n k h e = go (ltb (length l) k) refl
     go true p = let q = ltb-true (length l) k p in lt-ltb (length (drop at l)) n (omega (arith, length-drop at l))
     go false p = let q = ltb-false (length l) k p in le-ltb (length (drop at l)) n (omega (arith, length-drop at l))
 
-part-length : (l : List ℕ) (k n : ℕ) → k + n ≤ length l → length (take n (drop k l)) ≡ n
-part-length l k n h = omega (arith, length-take n (drop k l), length-drop k l)
-
 module _ (f : File) (l : List ℕ) (s : Seen) (c : Contents) (h : Holds f l s c) (w : Within l s) where
-  pub tag-here : byte (drop (s .at) l) 0 ≡ tagOf l s
-  tag-here = byte-drop l (s .at) 0 (s .at) (omega arith)
-
-  pub size-here : size (drop (s .at) l) ≡ sizeOf l s
-  size-here = word-drop l (s .at) 1 (s .at + 1) refl
-
   pub field-agrees : verdict (fieldRules f c (s .at) (drop (s .at) l)) ≡ fieldVerdict (isBook f) l s
   unfolding fieldRules fieldVerdict frameVerdict
   field-agrees =
       let t = tagOf l s in
       let n = sizeOf l s in
       let B = bodyVerdict (take (s .at) l) s (tagOf l s) (bodyOf l s) in
-      rw (tag-here, size-here, drop-drop 3 (s .at) l)
+      rw (tag-here l (s .at), size-here l (s .at), drop-drop 3 (s .at) l)
       (first-on _ _ 1 _ _ (left-test l (s .at) 3 (s .at + 3) (w .inside) refl) (λ a.
       first-on _ _ 2 _ _ (known-agrees t) (λ u.
-      let u′ = either-none (eqb t 0) (ltb 5 t) u in
-      let low = eqb-false t 0 (u′ .0) in
-      let high = ltb-false 5 t (u′ .1) in
+      let low = eqb-false t 0 (or-false-first (eqb t 0) (ltb 5 t) u) in
+      let high = ltb-false 5 t (or-false-second (eqb t 0) (ltb 5 t) u) in
       first-on _ _ 3 _ _ (place-agrees f l s c h t) (λ m.
       first-on _ _ 4 _ _ (length-agrees t n) (λ q.
       first-on _ _ 1 _ _ (left-test l (s .at) (3 + n) (s .at + 3 + n) (w .inside) (omega arith)) (λ o.
       first-on _ _ 5 _ _ (count-agrees f l s c h t (omega arith) high) (λ r.
       let whole = ltb-false (length l) (s .at + 3 + n) o in
-      sym (body-agrees f l s c h t n (record { low = omega arith; high = high; placed = m; possible = q; whole = whole; room = r }) (bodyOf l s) (part-length l (s .at + 3) n whole)))
+      sym (body-agrees f l s c h t n (record { low = omega arith; high = high; placed = m; possible = q; whole = whole; room = r }) (bodyOf l s) (length-part l (s .at + 3) n whole)))
       ∙ sym (or-one (tooMany s t) 4 0 B))
       ∙ sym (or-one (ltb (length l) (s .at + 3 + n)) 0 (cond (tooMany s t) 5 0) B))
       ∙ sym (or-one (badLength t n) 3 (cond (ltb (length l) (s .at + 3 + n)) 1 (cond (tooMany s t) 5 0)) B))

@@ -4,15 +4,33 @@ use mathlib.Core.Bool.{Bool, true, false, cond, not, true≢false}
 use mathlib.Core.List.{List}
 use Prim.Native.Nat.{ℕ, zero, suc, _+_, _-_, _*_, _/_, _%_, _≤_, _<_}
 use native.Mathlib.Omega.{arith}
-use lib.ListN.{length, getD, take, drop, length-take, length-drop}
+use lib.ListN.{length, getD, take, drop}
 use lib.Dec.{ltb, eqb}
 use borrow.Author.Tests.{lt-ltb, le-ltb, le-leb, lt-leb, ltb-false, leb-false, eqb-true, eqb-false, not-false}
+use Rattle.fields.specs.At.{length-part}
+use Rattle.fields.specs.Walk.{Walked, walked-start, walked-next}
 use Rattle.bodies.specs.Bodies.{badLength}
 use Rattle.reader.specs.declared.Seen.{Seen}
+use Rattle.reader.specs.declared.Counts.{Counts}
 use Rattle.reader.specs.declared.Judged.{Judged}
 use Rattle.reader.specs.declared.Judged.the-variants.{Sound, Unsound}
+use Rattle.reader.specs.declared.Reading.the-variants.{Accepted, Refused}
 use Rattle.reader.specs.Reading.{outOfPlace, tooMany, frameVerdict, bodyVerdict, orElse, tagOf, sizeOf, bodyOf, fieldVerdict, counted, newer, after, next, judged, fieldOf, atEnd, stopped, turn, readFrom, start, reading}
 use Rattle.reader.specs.Facts.{Within}
+
+-- ---- answers that are told apart
+
+pub sound-unsound : (s : Seen) (n : ℕ) → Sound s ≡ Unsound n → ⊥
+sound-unsound s n e =
+    let z : _≡_ {A = ℕ} 0 1 = cc in
+    omega arith
+
+pub accepted-refused : (s : Counts) (n i : ℕ) → Accepted s ≡ Refused n i → ⊥
+accepted-refused s n i e =
+    let z : _≡_ {A = ℕ} 0 1 = cc in
+    omega arith
+
+-- ---- one field
 
 -- a chain of refusals that comes to 0 has passed each test
 skip : (b : Bool) (k x : ℕ) → cond b (suc k) x ≡ 0 → (b ≡ false) × (x ≡ 0)
@@ -106,7 +124,7 @@ unfolding outOfPlace
 table-only s tag h = eqb-true tag 5 (not-false _ h)
 
 -- a head is the first
-head-first : (book : Bool) (s : Seen) → outOfPlace book s 1 ≡ false → s .heads ≡ 0
+pub head-first : (book : Bool) (s : Seen) → outOfPlace book s 1 ≡ false → s .heads ≡ 0
 unfolding outOfPlace
 head-first true s h = absurd (true≢false h)
 head-first false s h = go (eqb (s .heads) 0) refl h
@@ -168,7 +186,6 @@ module _ (l : List ℕ) (book : Bool) (s : Seen) (w : Within l s) where
     pub there : Within l s′
     pub further : s .at + 3 ≤ s′ .at
     pub is : s′ ≡ next l s
-    pub no : fieldVerdict book l s ≡ 0
 
   pub passes : (s′ : Seen) → fieldOf book l s ≡ Sound s′ → Passed s′
   unfolding fieldOf
@@ -177,39 +194,34 @@ module _ (l : List ℕ) (book : Bool) (s : Seen) (w : Within l s) where
       go : (n : ℕ) → fieldVerdict book l s ≡ n → judged n (next l s) ≡ Sound s′ → Passed s′
       go zero e h =
           let p : next l s ≡ s′ = cc in
-          record { there = subst (λ (t : Seen). Within l t) p (within-next e); further = subst (λ (t : Seen). s .at + 3 ≤ t .at) p (far e); is = sym p; no = e }
-      go (suc n) e h = let z : _≡_ {A = ℕ} 0 1 = cc in absurd (omega arith)
+          record { there = subst (λ (t : Seen). Within l t) p (within-next e); further = subst (λ (t : Seen). s .at + 3 ≤ t .at) p (far e); is = sym p }
+      go (suc n) e h = absurd (sound-unsound s′ (suc n) (sym h))
 
 -- the reading as far as s
 pub record Left (book : Bool) (l : List ℕ) (s : Seen) : Type 0 where
-  pub turns : ℕ
-  pub enough : length l ≤ s .at + turns
-  pub same : readFrom (suc turns) book l s ≡ reading book l
+  pub walked : Walked l (s .at) (λ n. readFrom n book l s ≡ reading book l)
 
 pub left-start : (book : Bool) (l : List ℕ) → Left book l start
 unfolding reading
-left-start book l = record { turns = length l; enough = omega arith; same = refl }
+left-start book l = record { walked = walked-start l _ refl }
 
 module _ {book : Bool} {l : List ℕ} {s : Seen} (h : Left book l s) where
   pub left-end : length l ≤ s .at → atEnd book (length l) s ≡ reading book l
   unfolding readFrom
-  left-end e = rw (le-leb _ _ e) at (h .same)
+  left-end e = rw (le-leb _ _ e) at (h .walked .same)
 
-  left-turn : s .at < length l → turn (readFrom (h .turns) book l) (s .at) (fieldOf book l s) ≡ reading book l
+  left-turn : s .at < length l → turn (readFrom (h .walked .turns) book l) (s .at) (fieldOf book l s) ≡ reading book l
   unfolding readFrom
-  left-turn e = rw (lt-leb _ _ e) at (h .same)
+  left-turn e = rw (lt-leb _ _ e) at (h .walked .same)
 
   pub left-stop : s .at < length l → {f : Judged} {n : ℕ} → f ≡ fieldOf book l s → f ≡ Unsound n → stopped f (s .at) ≡ reading book l
   left-stop e {f} {n} p q = ap (λ (x : Judged). stopped x (s .at)) q ∙ (rw (sym p ∙ q) at (left-turn e))
 
   pub left-next : Within l s → s .at < length l → (t : Seen) → fieldOf book l s ≡ Sound t → Left book l t
+  unfolding readFrom
   left-next w e t p =
       let q = passes l book s w t p in
-      go (h .turns) (h .enough) (rw p at (left-turn e)) (q .further) (q .there .inside)
-    where
-      go : (n : ℕ) → length l ≤ s .at + n → readFrom n book l t ≡ reading book l → s .at + 3 ≤ t .at → t .at ≤ length l → Left book l t
-      go zero a b d f = absurd (omega arith)
-      go (suc n) a b d f = record { turns = n; enough = omega arith; same = b }
+      record { walked = walked-next _ (h .walked) (t .at) (omega (arith, q .further)) (q .there .inside) (λ n r. rw (lt-leb _ _ e, p) at r) }
 
 module _ (l : List ℕ) (book : Bool) (s : Seen) where
   pub field-short : length l < s .at + 3 → fieldVerdict book l s ≡ 1
@@ -242,4 +254,4 @@ pub within-start : (l : List ℕ) → Within l start
 within-start l = record { inside = omega arith; one-head = omega arith; few-stations = omega arith; few-tracks = omega arith; few-trains = omega arith; few-tables = omega arith; near = omega arith }
 
 pub part-length : (l : List ℕ) (a n : ℕ) → a + n ≤ length l → length (take (a + n - a) (drop a l)) ≡ n
-part-length l a n h = omega (arith, length-take (a + n - a) (drop a l), length-drop a l)
+part-length l a n h = let e : a + n - a ≡ n = omega arith in rw e (length-part l a n h)

@@ -8,5 +8,6 @@ pub mod More
 pub mod Answers
 pub mod Agree
 pub mod Final
+pub mod Along
 pub mod Decoded
 pub mod Stands

@@ -1,25 +1,27 @@
 -- One sound field more keeps what the state says of the contents: each count grows by the tag's own, and the field's body stands where
 -- the counts say. Assumes nothing.
 use mathlib.Core.Path.{_≡_, refl, ap, sym, _∙_}
-use mathlib.Core.Bool.{Bool, true, false, cond, _&&_, _||_}
+use mathlib.Core.Bool.{Bool, true, false, cond, _&&_, _||_, or-false}
 use mathlib.Core.List.{List, [], _∷_, _++_, append-nil}
-use Prim.Native.Nat.{ℕ, _+_, _-_, _*_, _≤_, _<_}
+use Prim.Native.Nat.{ℕ, _+_, _*_, _≤_, _<_}
 use native.Mathlib.Numerals.{add-one}
 use native.Mathlib.Omega.{arith}
 use lib.ListN.{length, getD, take, drop, length-append, List·getD-append}
-use lib.Seq.{getD-take, getD-drop, getD-append-seam}
+use lib.Seq.{getD-take, getD-append-seam}
 use lib.Dec.{leb, ltb, eqb}
 use borrow.Author.Tests.{le-leb, leb-true, leb-false, ltb-true, ltb-false, ne-eqb, eqb-true}
 use Rattle.rules.specs.Lists.{one, any}
 use Rattle.rules.specs.Files.{File, Contents, Track, byte, headOf, trackOf, trainOf, tableOf, leads, more}
 use Rattle.rules.specs.Files.File.{case, book}
+use Rattle.lists.specs.Every.{any-append}
+use Rattle.fields.specs.At.{byte-part}
 use Rattle.bodies.specs.Bodies.{ends, joined, badLength, pairsVerdict, tableVerdict}
-use Rattle.bodies.specs.Search.{any-none, any-suc, any-append}
+use Rattle.bodies.specs.Search.{any-none, any-suc}
 use Rattle.reader.specs.declared.Seen.{Seen}
 use Rattle.reader.specs.Reading.{outOfPlace, base, bodyVerdict, tagOf, sizeOf, bodyOf, fieldVerdict, counted, newer, after, next}
 use Rattle.reader.specs.Facts.{Within}
-use Rattle.reader.specs.Laws.{Framed, five, field-framed, body-sound, head-length, station-length, track-length, table-length}
-use Rattle.reader.specs.Places.{head-once, heads-first, rises, placed-next}
+use Rattle.reader.specs.Laws.{Framed, head-first, five, field-framed, body-sound, head-length, station-length, track-length, table-length}
+use Rattle.reader.specs.Places.{heads-first, rises, placed-next}
 use Rattle.reader.specs.Holds.{isBook, noTrack, InCase, OfFile, Holds}
 
 -- ---- counts
@@ -29,20 +31,12 @@ count-more true x l n h = length-append l (x ∷ []) ∙ ap (λ (k : ℕ). k + 1
 count-more false x l n h = ap length (append-nil l) ∙ h
 
 any-more : {A : Type 0} (t : A → Bool) (b : Bool) (x : A) (l : List A) → any t (l ++ one b x) ≡ cond b (any t l || t x) (any t l)
-any-more t true x l = any-append t l (x ∷ []) ∙ ap (λ (y : Bool). any t l || y) (go (t x))
-  where
-    go : (y : Bool) → y || false ≡ y
-    go true = refl
-    go false = refl
+any-more t true x l = any-append t l (x ∷ []) ∙ ap (λ (y : Bool). any t l || y) (or-false (t x))
 any-more t false x l = ap (any t) (append-nil l)
 
 any-empty : {A : Type 0} (t : A → Bool) (l : List A) → length l ≡ 0 → any t l ≡ false
 any-empty t [] h = refl
 any-empty t (a ∷ l) h = absurd (omega arith)
-
--- a byte of a part that starts at k
-part-byte : (l : List ℕ) (k n i j : ℕ) → i < n → k + i ≡ j → byte (take n (drop k l)) i ≡ byte l j
-part-byte l k n i j h e = getD-take n (drop k l) i 0 h ∙ getD-drop k l i 0 ∙ ap (byte l) e
 
 -- one more at the end: the earlier ones stay, and the last is the new one
 snoc : {A : Type 0} {y : A} (l : List A) (x d : A) (j n : ℕ) → length l ≡ n → j < n + 1 → (j < n → y ≡ getD l j d) → (j ≡ n → y ≡ x) → y ≡ getD (l ++ (x ∷ [])) j d
@@ -94,7 +88,7 @@ module _ (l : List ℕ) (s : Seen) (c : Contents) (i : InCase l s c) (one-head :
   -- a head comes first
   fresh : outOfPlace false s 1 ≡ false → (s .at ≡ 0) × (s .tracks ≡ 0) × (s .tag ≡ 0)
   fresh p =
-      let a = head-once s p in
+      let a = head-first false s p in
       let t = i .placed .headed a in
       (i .untouched t, i .placed .none-yet (omega arith), t)
 
@@ -136,7 +130,7 @@ module _ (l : List ℕ) (s : Seen) (c : Contents) (i : InCase l s c) (one-head :
       let h = heads-first s 2 p (λ e. omega arith) in
       let e = station-length n q in
       snoc (c .stations) (byte b 0) 0 j (s .stations) known k (i .stations-stand j)
-      (λ g. sym (part-byte l (s .at + 3) n 0 (11 + 4 * j) (omega arith) (omega arith))))
+      (λ g. sym (byte-part l (s .at + 3) n 0 (11 + 4 * j) (omega arith) (omega arith))))
       (λ p q k. old k)
       (λ p q k. old k)
       (λ p q k. old k)
@@ -173,8 +167,8 @@ module _ (l : List ℕ) (s : Seen) (c : Contents) (i : InCase l s c) (one-head :
   one-leads : (from to : ℕ) → n ≡ 3 → s .at ≡ base s + 6 * s .tracks → joined l (base s) (s .tracks + 1) from to ≡ any (leads from to) (c .tracks ++ (trackOf b ∷ []))
   unfolding joined ends leads trackOf
   one-leads from to e a =
-      let u = part-byte l (s .at + 3) n 0 (base s + 6 * s .tracks + 3) (omega arith) (omega arith) in
-      let v = part-byte l (s .at + 3) n 1 (base s + 6 * s .tracks + 4) (omega arith) (omega arith) in
+      let u = byte-part l (s .at + 3) n 0 (base s + 6 * s .tracks + 3) (omega arith) (omega arith) in
+      let v = byte-part l (s .at + 3) n 1 (base s + 6 * s .tracks + 4) (omega arith) (omega arith) in
       ap (λ (k : ℕ). joined l (base s) k from to) (add-one (s .tracks))
       ∙ any-suc (λ j. ends l (base s + 6 * j) from to) (s .tracks)
       ∙ go (eqb (byte l (base s + 6 * s .tracks + 3)) from) (eqb (byte l (base s + 6 * s .tracks + 4)) to) (joined l (base s) (s .tracks) from to)
@@ -220,7 +214,7 @@ module _ (f : File) (l : List ℕ) (s : Seen) (c : Contents) (h : Holds f l s c)
           let t = eqb-true (tagOf l s) 5 e in
           let d = field-framed l (isBook f) s w v in
           let n = table-length (sizeOf l s) (ap (λ (k : ℕ). badLength k (sizeOf l s)) (sym t) ∙ d .possible) in
-          let y = part-byte l (s .at + 3) (sizeOf l s) 0 (s .at + 3) (omega arith) (omega arith) in
+          let y = byte-part l (s .at + 3) (sizeOf l s) 0 (s .at + 3) (omega arith) (omega arith) in
           types-more c (s .tables) (s .kind) (h .types) (bodyOf l s) (of-table (tagOf l s) (bodyOf l s) t (body-sound l (isBook f) s w v)) x
           ∙ ap (λ (k : ℕ). cond (eqb (s .tables + 1) 0) false (leb x k)) y
       go false e = h .types x

@@ -12,7 +12,7 @@ use Rattle.bodies.specs.Bodies.{badLength}
 use Rattle.reader.specs.declared.Seen.{Seen}
 use Rattle.reader.specs.Reading.{outOfPlace, tagOf, sizeOf, fieldVerdict, base, counted, newer, after, next, start}
 use Rattle.reader.specs.Facts.{Within}
-use Rattle.reader.specs.Laws.{Framed, field-framed, five, head-length, station-length, track-length}
+use Rattle.reader.specs.Laws.{Framed, field-framed, head-first, five, head-length, station-length, track-length}
 
 pub record Placed (s : Seen) : Type 0 where
   pub none-yet : s .tag ≤ 2 → s .tracks ≡ 0
@@ -41,21 +41,13 @@ heads-first s tag h k z = go (eqb tag 1) refl (rw z at h)
     go true e h = k (eqb-true tag 1 e)
     go false e h = true≢false h
 
-pub head-once : (s : Seen) → outOfPlace false s 1 ≡ false → s .heads ≡ 0
-unfolding outOfPlace
-head-once s h = go (eqb (s .heads) 0) refl h
-  where
-    go : (b : Bool) → eqb (s .heads) 0 ≡ b → cond b false true ≡ false → s .heads ≡ 0
-    go true e h = eqb-true (s .heads) 0 e
-    go false e h = absurd (true≢false h)
-
 module _ (l : List ℕ) (s : Seen) (p : Placed s) where
   placed-after : (tag n x : ℕ) → Framed (length l) false s tag n → Placed (after s tag (s .at + 3 + n) x)
   unfolding after counted newer
   placed-after tag n x f =
       five (λ t. outOfPlace false s t ≡ false → badLength t n ≡ false → Placed (after s t (s .at + 3 + n) x))
       tag (f .low) (f .high)
-      (λ m q. let h = head-once s m in let t = p .headed h in let a = p .none-yet (omega arith) in let b = p .so-far (omega arith) in let c = head-length n q in
+      (λ m q. let h = head-first false s m in let t = p .headed h in let a = p .none-yet (omega arith) in let b = p .so-far (omega arith) in let c = head-length n q in
       record { none-yet = λ k. a; so-far = λ k. omega arith; headed = λ k. absurd (omega arith) })
       (λ m q. let r = rises s 2 m (λ e. omega arith) in let h = heads-first s 2 m (λ e. omega arith) in let a = p .none-yet (omega arith) in let b = p .so-far (omega arith) in let c = station-length n q in
       record { none-yet = λ k. a; so-far = λ k. omega arith; headed = λ k. absurd (h k) })

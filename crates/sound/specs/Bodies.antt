@@ -151,7 +151,7 @@ unfolding trainOf
 stops-count at b =
     length-map (below ((length b - 2) / 5)) (λ k. stopOf (drop (2 + 5 * k) b)) ∙ length-span ((length b - 2) / 5) 0
 
-pairs-count : (b : List ℕ) → length (tableOf b .pairs) ≡ (length b - 1) / 2
+pub pairs-count : (b : List ℕ) → length (tableOf b .pairs) ≡ (length b - 1) / 2
 unfolding tableOf
 pairs-count b =
     length-map (below ((length b - 1) / 2)) (λ k. pairOf (drop (1 + 2 * k) b)) ∙ length-span ((length b - 1) / 2) 0

@@ -10,3 +10,4 @@ pub mod Bounds
 pub mod Window
 pub mod Places
 pub mod Trains
+pub mod Runs

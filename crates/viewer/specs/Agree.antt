@@ -4,23 +4,23 @@
 use mathlib.Core.Path.{_≡_, refl, ap, sym, _∙_}
 use mathlib.Core.Bool.{Bool, true, false, not, _&&_, cond, false≢true}
 use mathlib.Core.List.{List, [], _∷_}
-use Prim.Native.Nat.{ℕ, zero, suc, _+_, _*_, _≤_, _<_}
+use Prim.Native.Nat.{ℕ, zero, suc, _+_, _≤_, _<_}
 use native.Mathlib.Omega.{arith}
-use lib.ListN.{length, take, drop, length-drop, drop-of-length-le}
-use lib.Seq.{getD-drop, drop-drop}
+use lib.ListN.{length, drop, length-drop, drop-of-length-le}
 use lib.Dec.{leb, ltb, eqb}
-use borrow.Author.Tests.{leb-true, leb-false, ltb-true, lt-ltb, le-ltb, le-leb, lt-leb}
+use borrow.Author.Tests.{leb-true, leb-false, ltb-true}
 use Rattle.rules.specs.Lists.{has}
-use Rattle.rules.specs.Refusals.{Rule, Refusal, Result, number, firstOf, verdict, unless}
+use Rattle.rules.specs.Refusals.{Rule, Refusal, number, firstOf, verdict}
 use Rattle.rules.specs.Refusals.Fault.{overrun}
 use Rattle.rules.specs.Refusals.Result.{refused, answer}
 use Rattle.rules.specs.Files.{File, fileNumber, Contents, byte, word, size, body, headOf, trackOf, trainOf, tableOf, known, inPlace, lengths, most, howMany, headRules, stationRules, trackRules, trainRules, tableRules, bodyRules, fieldRules, more, endRules, readField, readFields, empty, read}
 use Rattle.rules.specs.Files.File.{case, book}
-use Rattle.sound.specs.Verdicts.{answer-answer, unless-answer, unless-refused, field-accepted}
+use Rattle.sound.specs.Verdicts.{refused-answer, answer-answer, unless-answer, unless-refused, field-accepted}
 use Rattle.sound.specs.Verdicts.{Field as Accepted}
 use Rattle.fields.specs.declared.Field.{Field}
 use Rattle.fields.specs.declared.Field.the-variants.{Whole, Ended, Overrun}
 use Rattle.fields.specs.Fields.{past, whole, fieldAt, numberOf}
+use Rattle.fields.specs.At.{size-here, bodyHere, read-here, whole-of, field-ended, field-overrun, field-whole}
 use Rattle.viewer.specs.Viewing.{placeAfter, placeFrom, withGiven, heldFrom}
 
 -- ---- the statements
@@ -43,64 +43,17 @@ pub record Stopped (l : List ℕ) (i : ℕ) (r : Refusal) : Type 0 where
   pub place : placeFrom many l i ≡ r .place
   pub one : r .number ≡ number overrun → numberOf (fieldAt l (r .place)) ≡ r .number
 
--- ---- the field at a place, by the bytes from there on
+-- ---- the field at a place
 
-read-front : (go : ℕ → List ℕ → Contents → Result Contents) (f : File) (at : ℕ) (m : List ℕ) (c : Contents) → 0 < length m
-    → readField go f at m c ≡ unless (verdict (fieldRules f c at m)) (fileNumber f) at (go (at + (3 + size m)) (drop (3 + size m) m)) (more c at (byte m 0) (body m))
-unfolding readField
-read-front go f at [] c h = absurd (omega arith)
-read-front go f at (b ∷ m) c h = refl
+-- a viewer at i gives a field
+abbrev WholeHere : List ℕ → ℕ → Type 0
+WholeHere l i = (fieldAt l i ≡ Whole (byte l i) (word l (i + 1)) (past l i)) × (whole l i ≡ true)
 
-module _ (l : List ℕ) (i : ℕ) where
-  byte-here : (k j : ℕ) → i + k ≡ j → byte (drop i l) k ≡ byte l j
-  byte-here k j e = getD-drop i l k 0 ∙ ap (byte l) e
-
-  size-here : size (drop i l) ≡ word l (i + 1)
-  size-here = ap (λ (b : ℕ). b * 256 + byte (drop i l) 2) (byte-here 1 (i + 1) refl) ∙ ap (λ (b : ℕ). byte l (i + 1) * 256 + b) (byte-here 2 (i + 1 + 1) (omega arith))
-
-  abbrev bodyHere : List ℕ
-  bodyHere = take (word l (i + 1)) (drop (i + 3) l)
-
-  body-here : body (drop i l) ≡ bodyHere
-  body-here = ap (λ (n : ℕ). take n (drop 3 (drop i l))) size-here ∙ ap (take (word l (i + 1))) (drop-drop 3 i l)
-
-  ended-here : length l ≤ i → fieldAt l i ≡ Ended
-  unfolding fieldAt
-  ended-here h = simp (le-leb _ _ h)
-
-  -- a viewer at i gives a field
-  abbrev WholeHere : Type 0
-  WholeHere = (fieldAt l i ≡ Whole (byte l i) (word l (i + 1)) (past l i)) × (whole l i ≡ true)
-
-  -- a field that breaks no rule is whole
-  whole-here : (f : File) (c : Contents) → Accepted f c i (drop i l) → i < length l → WholeHere
-  unfolding fieldAt whole
-  whole-here f c a h =
-      let n = length-drop i l in
-      let s = size-here in
-      let w = a .whole in
-      let x : i + 3 ≤ length l = omega arith in
-      let y : past l i ≤ length l = omega arith in
-      (simp (lt-leb _ _ h, le-ltb _ _ x, le-ltb _ _ y), simp (le-ltb _ _ x, le-leb _ _ y))
-
-  overrun-here : i < length l → length l < past l i → fieldAt l i ≡ Overrun
-  unfolding fieldAt
-  overrun-here h o = rw (lt-leb _ _ h, lt-ltb _ _ o) (go (ltb (length l) (i + 3)))
-    where
-      go : (b : Bool) → cond b Overrun Overrun ≡ Overrun
-      go true = refl
-      go false = refl
-
-  past-here : i + (3 + size (drop i l)) ≡ past l i
-  past-here = let s = size-here in omega arith
-
-  -- the reading goes past it
-  read-here : (go : ℕ → List ℕ → Contents → Result Contents) (f : File) (c : Contents) → i < length l
-      → readField go f i (drop i l) c ≡ unless (verdict (fieldRules f c i (drop i l))) (fileNumber f) i (go (past l i) (drop (past l i) l)) (more c i (byte l i) bodyHere)
-  read-here go f c h =
-      let n = length-drop i l in
-      read-front go f i (drop i l) c (omega arith)
-      ∙ rw (drop-drop (3 + size (drop i l)) i l, past-here, byte-here 0 i (omega arith), body-here)
+-- a field that breaks no rule is whole
+whole-here : (l : List ℕ) (i : ℕ) (f : File) (c : Contents) → Accepted f c i (drop i l) → i < length l → WholeHere l i
+whole-here l i f c a h =
+    let y : past l i ≤ length l = omega (arith, length-drop i l, size-here l i, a .whole) in
+    (field-whole l i y, whole-of l i y)
 
 -- ---- which rules give refusal 1
 
@@ -173,7 +126,7 @@ module _ (f : File) (l : List ℕ) (d : Contents) where
   to-the-end : (n i : ℕ) (c : Contents) → length l < i + n → readFields n f i (drop i l) c ≡ answer d → ToTheEnd l i c d
   unfolding readFields readField placeFrom heldFrom
   to-the-end zero i c h r =
-      record { many = 0; fields = λ k b. absurd (omega arith); ended = ended-here l i (omega arith); holds = answer-answer c d r }
+      record { many = 0; fields = λ k b. absurd (omega arith); ended = field-ended l i (omega arith); holds = answer-answer c d r }
   to-the-end (suc n) i c h r = go (leb (length l) i) refl (to-the-end n)
     where
       go : (b : Bool) → leb (length l) i ≡ b
@@ -181,7 +134,7 @@ module _ (f : File) (l : List ℕ) (d : Contents) where
       go true e ih =
           let o = leb-true (length l) i e in
           let u = unless-answer (verdict (endRules f c)) (fileNumber f) i answer c d (rw (drop-of-length-le l o) at r) in
-          record { many = 0; fields = λ k b. absurd (omega arith); ended = ended-here l i o; holds = answer-answer c d (u .1) }
+          record { many = 0; fields = λ k b. absurd (omega arith); ended = field-ended l i o; holds = answer-answer c d (u .1) }
       go false e ih =
           let o = leb-false (length l) i e in
           let u = unless-answer (verdict (fieldRules f c i (drop i l))) (fileNumber f) i _ _ d (sym (read-here l i (readFields n f) f c o) ∙ r) in
@@ -206,13 +159,13 @@ module _ (f : File) (l : List ℕ) (r : Refusal) where
 
   stopped : (n i : ℕ) (c : Contents) → readFields n f i (drop i l) c ≡ refused r → Stopped l i r
   unfolding readFields readField
-  stopped zero i c q = let z : _≡_ {A = ℕ} 0 1 = cc in absurd (omega arith)
+  stopped zero i c q = absurd (refused-answer r c (sym q))
   stopped (suc n) i c q = go (leb (length l) i) refl (stopped n)
     where
       go : (b : Bool) → leb (length l) i ≡ b → ((j : ℕ) (e : Contents) → readFields n f j (drop j l) e ≡ refused r → Stopped l j r) → Stopped l i r
       go true e ih =
           unless-refused (Stopped l i r) (verdict (endRules f c)) (fileNumber f) i answer c r (rw (drop-of-length-le l (leb-true (length l) i e)) at q)
-          (λ v a. let z : _≡_ {A = ℕ} 0 1 = cc in absurd (omega arith))
+          (λ v a. absurd (refused-answer r c (sym a)))
           (λ v a. stopped-here i (verdict (endRules f c)) a (λ z. absurd (verdict-no-one (endRules f c) (end-no-one f c) z)))
       go false e ih =
           let o = leb-false (length l) i e in
@@ -222,7 +175,7 @@ module _ (f : File) (l : List ℕ) (r : Refusal) where
           let m = one-overruns f c i (drop i l) z in
           let p = length-drop i l in
           let s = size-here l i in
-          overrun-here l i o (omega arith)))
+          field-overrun l i o (omega arith)))
 
 -- what an accepted file holds are the fields that a viewer gives, one after another, and then the file has ended
 pub read-viewed : (f : File) (l : List ℕ) (c : Contents) → read f l ≡ answer c → ToTheEnd l 0 empty c

@@ -1,5 +1,4 @@
 -- `bodies::bad_length` meets its contract: each return is one case of the definition. Assumes nothing.
-use Prim.Native.Nat.{_-_}
 use borrow.Author.Tests.{lt-ltb, le-ltb, eq-eqb, ne-eqb}
 use Rattle.bodies.specs.Bodies.{badLength}
 use Rattle.bodies.proofs.bad_length.Statement.{statement}

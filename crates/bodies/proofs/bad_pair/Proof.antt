@@ -1,7 +1,6 @@
 -- `bodies::bad_pair` meets its contract: each return is one case of the definition. Assumes nothing.
 use borrow.Author.Needs.{needs}
 use mathlib.Core.Path.{sym}
-use Prim.Native.Nat.{_-_}
 use borrow.Author.Tests.{eq-eqb, ne-eqb}
 use Rattle.bodies.specs.Bodies.{badPair}
 use Rattle.bodies.proofs.bad_pair.Statement.{statement}

@@ -1,7 +1,6 @@
 -- `bodies::bad_time` meets its contract: each return is one case of the definition. Assumes nothing.
 use borrow.Author.Needs.{needs}
 use mathlib.Core.Path.{sym}
-use Prim.Native.Nat.{_-_}
 use borrow.Author.Tests.{lt-ltb, le-ltb, eq-eqb, ne-eqb}
 use Rattle.bodies.specs.Bodies.{badTime}
 use Rattle.bodies.proofs.bad_time.Statement.{statement}

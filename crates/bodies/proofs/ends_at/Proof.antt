@@ -1,7 +1,6 @@
 -- `bodies::ends_at` meets its contract: each return is one case of the definition. Assumes nothing.
 use borrow.Author.Needs.{needs}
 use mathlib.Core.Path.{sym}
-use Prim.Native.Nat.{_-_}
 use borrow.Author.Tests.{eq-eqb, ne-eqb}
 use Rattle.bodies.specs.Bodies.{ends}
 use Rattle.bodies.proofs.ends_at.Statement.{statement}

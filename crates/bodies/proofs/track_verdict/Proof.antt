@@ -1,7 +1,6 @@
 -- `bodies::track_verdict` meets its contract: each return is one case of the definition. Assumes nothing.
 use borrow.Author.Needs.{needs}
 use mathlib.Core.Path.{sym}
-use Prim.Native.Nat.{_-_}
 use borrow.Author.Tests.{le-leb, lt-leb, eq-eqb, ne-eqb}
 use Rattle.bodies.specs.Bodies.{trackVerdict}
 use Rattle.bodies.proofs.Laws.{byte-small}

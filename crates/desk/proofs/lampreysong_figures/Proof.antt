@@ -3,7 +3,8 @@ use mathlib.Core.Path.{sym, _∙_}
 use mathlib.Core.List.{[]}
 use native.Mathlib.Omega.{arith}
 use Rattle.desk.specs.Laws.{train-starts, train-runs}
-use Rattle.desk.specs.Answered.{train-answered, measurable, measured-figures}
+use Rattle.sound.specs.Runs.{train-answer}
+use Rattle.desk.specs.Answered.{measurable, measured-figures}
 use Rattle.desk.specs.Ends.{short-rows, short-weights, long, laid-stood, figures-short, figures-refused, figures-answered}
 use borrow.Author.Needs.{needs}
 use Rattle.desk.proofs.lampreysong_figures.Statement.{statement}
@@ -61,7 +62,7 @@ slice-aggregate-measure-2 : tie.Need-slice-aggregate-measure-2
 slice-aggregate-measure-2 c = search needs
 
 measure-requires : tie.Need-measure-requires
-measure-requires c κs = let s = c .before .before .before .before .before .before .before .before .before .before .before .before .before .before .before .before .before .before .before .before .before .before .before in let U = train-runs (s .args .case .now) (s .args .book .now) (c .before .before .before .before .before .before .before .before .before .before .before .before .before .before .before .word .ensures .0) (s .args .train) (c .before .before .before .before .before .before .before .before .before .before .before .before .before .before .before .before .for-train .ensures) in let z = laid-stood (c .before .before .before .before .before .before .before .before .before .before .lay .ensures) (c .before .before .if3 .left) in measurable (train-answered (s .args .case .now) (s .args .book .now) (s .args .train) (z .run) (sym U ∙ z .is)) _ (z .looked) _ (z .weighed)
+measure-requires c κs = let s = c .before .before .before .before .before .before .before .before .before .before .before .before .before .before .before .before .before .before .before .before .before .before .before in let U = train-runs (s .args .case .now) (s .args .book .now) (c .before .before .before .before .before .before .before .before .before .before .before .before .before .before .before .word .ensures .0) (s .args .train) (c .before .before .before .before .before .before .before .before .before .before .before .before .before .before .before .before .for-train .ensures) in let z = laid-stood (c .before .before .before .before .before .before .before .before .before .before .lay .ensures) (c .before .before .if3 .left) in measurable (train-answer (s .args .case .now) (s .args .book .now) (s .args .train) (z .run) (sym U ∙ z .is)) _ (z .looked) _ (z .weighed)
 
 train-figures-requires : tie.Need-train-figures-requires
 train-figures-requires c κs = search needs
@@ -73,7 +74,7 @@ same-length-4 : tie.Need-same-length-4
 same-length-4 c = search needs
 
 returns-4 : tie.Need-returns-4
-returns-4 c = let s = c .before .before .before .before .before .before .before .before .before .before .before .before .before .before .before .before .before .before .before .before .before .before .before .before .before in let U = train-runs (s .args .case .now) (s .args .book .now) (c .before .before .before .before .before .before .before .before .before .before .before .before .before .before .before .before .before .word .ensures .0) (s .args .train) (c .before .before .before .before .before .before .before .before .before .before .before .before .before .before .before .before .before .before .for-train .ensures) in let z = laid-stood (c .before .before .before .before .before .before .before .before .before .before .before .before .lay .ensures) (c .before .before .before .before .if3 .left) in figures-answered (s .args .case .now) (s .args .book .now) (s .args .train) (s .args .limit) U (long 0 (s .args .rows .now) (s .args .weights .now) [] (c .before .before .before .before .before .before .before .before .before .before .before .before .before .before .before .before .before .before .before .before .if1 .left) (c .before .before .before .before .before .before .before .before .before .before .before .before .before .before .before .before .before .before .before .if2 .left) (omega arith)) (c .before .before .before .before .before .before .before .before .before .before .before .before .lay .ensures) z (measured-figures (train-answered (s .args .case .now) (s .args .book .now) (s .args .train) (z .run) (sym U ∙ z .is)) _ (z .looked) _ (z .weighed) (s .args .limit) (c .before .measure .ensures)) (c .train-figures .ensures)
+returns-4 c = let s = c .before .before .before .before .before .before .before .before .before .before .before .before .before .before .before .before .before .before .before .before .before .before .before .before .before in let U = train-runs (s .args .case .now) (s .args .book .now) (c .before .before .before .before .before .before .before .before .before .before .before .before .before .before .before .before .before .word .ensures .0) (s .args .train) (c .before .before .before .before .before .before .before .before .before .before .before .before .before .before .before .before .before .before .for-train .ensures) in let z = laid-stood (c .before .before .before .before .before .before .before .before .before .before .before .before .lay .ensures) (c .before .before .before .before .if3 .left) in figures-answered (s .args .case .now) (s .args .book .now) (s .args .train) (s .args .limit) U (long 0 (s .args .rows .now) (s .args .weights .now) [] (c .before .before .before .before .before .before .before .before .before .before .before .before .before .before .before .before .before .before .before .before .if1 .left) (c .before .before .before .before .before .before .before .before .before .before .before .before .before .before .before .before .before .before .before .if2 .left) (omega arith)) (c .before .before .before .before .before .before .before .before .before .before .before .before .lay .ensures) z (measured-figures (train-answer (s .args .case .now) (s .args .book .now) (s .args .train) (z .run) (sym U ∙ z .is)) _ (z .looked) _ (z .weighed) (s .args .limit) (c .before .measure .ensures)) (c .train-figures .ensures)
 
 pub lampreysong-figures-spec : {M : Type 1} → statement M
 lampreysong-figures-spec =

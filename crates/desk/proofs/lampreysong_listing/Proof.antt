@@ -1,7 +1,8 @@
 -- `desk::lampreysong_listing` meets its contract: memory too short, refused, or the listing of the run over the whole window. Assumes nothing.
 use mathlib.Core.Path.{sym, _∙_}
 use Rattle.desk.specs.Laws.{whole-starts, whole-runs}
-use Rattle.desk.specs.Answered.{whole-answered, printable, printed-listing}
+use Rattle.sound.specs.Runs.{whole-answer}
+use Rattle.desk.specs.Answered.{printable, printed-listing}
 use Rattle.desk.specs.Ends.{short-rows, short-weights, short-text, long, laid-stood, listing-short, listing-refused, listing-printed}
 use borrow.Author.Needs.{needs}
 use Rattle.desk.proofs.lampreysong_listing.Statement.{statement}
@@ -62,7 +63,7 @@ slice-aggregate-print-2 : tie.Need-slice-aggregate-print-2
 slice-aggregate-print-2 c = search needs
 
 print-requires : tie.Need-print-requires
-print-requires c κs = let s = c .before .before .before .before .before .before .before .before .before .before .before .before .before .before .before .before .before .before .before .before .before .before .before .before .before .before in let U = whole-runs (s .args .case .now) (s .args .book .now) (c .before .before .before .before .before .before .before .before .before .before .before .before .before .before .before .before .word .ensures .0) (c .before .before .before .before .before .before .before .before .before .before .before .before .before .before .before .before .before .read-files .ensures) in let z = laid-stood (c .before .before .before .before .before .before .before .before .before .before .before .lay .ensures) (c .before .before .before .if4 .left) in (printable (whole-answered (s .args .case .now) (s .args .book .now) (z .run) (sym U ∙ z .is)) _ (z .looked), search needs)
+print-requires c κs = let s = c .before .before .before .before .before .before .before .before .before .before .before .before .before .before .before .before .before .before .before .before .before .before .before .before .before .before in let U = whole-runs (s .args .case .now) (s .args .book .now) (c .before .before .before .before .before .before .before .before .before .before .before .before .before .before .before .before .word .ensures .0) (c .before .before .before .before .before .before .before .before .before .before .before .before .before .before .before .before .before .read-files .ensures) in let z = laid-stood (c .before .before .before .before .before .before .before .before .before .before .before .lay .ensures) (c .before .before .before .if4 .left) in (printable (whole-answer (s .args .case .now) (s .args .book .now) (z .run) (sym U ∙ z .is)) _ (z .looked), search needs)
 
 same-length-4 : tie.Need-same-length-4
 same-length-4 c = search needs
@@ -74,7 +75,7 @@ same-length-6 : tie.Need-same-length-6
 same-length-6 c = search needs
 
 returns-5 : tie.Need-returns-5
-returns-5 c = let s = c .before .before .before .before .before .before .before .before .before .before .before .before .before .before .before .before .before .before .before .before .before .before .before .before .before .before .before .before .before in let U = whole-runs (s .args .case .now) (s .args .book .now) (c .before .before .before .before .before .before .before .before .before .before .before .before .before .before .before .before .before .before .before .word .ensures .0) (c .before .before .before .before .before .before .before .before .before .before .before .before .before .before .before .before .before .before .before .before .read-files .ensures) in let z = laid-stood (c .before .before .before .before .before .before .before .before .before .before .before .before .before .before .lay .ensures) (c .before .before .before .before .before .before .if4 .left) in listing-printed (s .args .case .now) (s .args .book .now) (s .args .text .now) U (long 32768 (s .args .rows .now) (s .args .weights .now) (s .args .text .now) (c .before .before .before .before .before .before .before .before .before .before .before .before .before .before .before .before .before .before .before .before .before .before .before .if1 .left) (c .before .before .before .before .before .before .before .before .before .before .before .before .before .before .before .before .before .before .before .before .before .before .if2 .left) (c .before .before .before .before .before .before .before .before .before .before .before .before .before .before .before .before .before .before .before .before .before .if3 .left)) (c .before .before .before .before .before .before .before .before .before .before .before .before .before .before .lay .ensures) z (printed-listing (whole-answered (s .args .case .now) (s .args .book .now) (z .run) (sym U ∙ z .is)) _ (z .looked) _ (s .args .text .now) (z .weighed) (c .before .before .print .ensures))
+returns-5 c = let s = c .before .before .before .before .before .before .before .before .before .before .before .before .before .before .before .before .before .before .before .before .before .before .before .before .before .before .before .before .before in let U = whole-runs (s .args .case .now) (s .args .book .now) (c .before .before .before .before .before .before .before .before .before .before .before .before .before .before .before .before .before .before .before .word .ensures .0) (c .before .before .before .before .before .before .before .before .before .before .before .before .before .before .before .before .before .before .before .before .read-files .ensures) in let z = laid-stood (c .before .before .before .before .before .before .before .before .before .before .before .before .before .before .lay .ensures) (c .before .before .before .before .before .before .if4 .left) in listing-printed (s .args .case .now) (s .args .book .now) (s .args .text .now) U (long 32768 (s .args .rows .now) (s .args .weights .now) (s .args .text .now) (c .before .before .before .before .before .before .before .before .before .before .before .before .before .before .before .before .before .before .before .before .before .before .before .if1 .left) (c .before .before .before .before .before .before .before .before .before .before .before .before .before .before .before .before .before .before .before .before .before .before .if2 .left) (c .before .before .before .before .before .before .before .before .before .before .before .before .before .before .before .before .before .before .before .before .before .if3 .left)) (c .before .before .before .before .before .before .before .before .before .before .before .before .before .before .lay .ensures) z (printed-listing (whole-answer (s .args .case .now) (s .args .book .now) (z .run) (sym U ∙ z .is)) _ (z .looked) _ (s .args .text .now) (z .weighed) (c .before .before .print .ensures))
 
 pub lampreysong-listing-spec : {M : Type 1} → statement M
 lampreysong-listing-spec =

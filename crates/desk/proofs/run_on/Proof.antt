@@ -5,9 +5,6 @@ use lib.ListN.{length, replicate, length-replicate}
 use borrow.Author.Needs.{needs}
 use Rattle.desk.proofs.run_on.Statement.{statement}
 use Rattle.desk.proofs.run_on.Tie as tie
-use Rattle.desk.proofs.run_on.Reads as reads
-use Rattle.desk.proofs.run_on.Lts as lts
-use Rattle.joint.proofs.run.Reads as run-reads
 
 slice-aggregate-run : tie.Need-slice-aggregate-run
 slice-aggregate-run c = search needs

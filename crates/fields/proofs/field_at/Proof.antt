@@ -1,7 +1,8 @@
 -- `fields::field_at` meets its contract: each return is one case of the definition. Assumes nothing.
 use borrow.Author.Needs.{needs}
 use mathlib.Core.Path.{sym}
-use Rattle.fields.proofs.Laws.{field-ended, field-short, field-cut, field-whole}
+use Rattle.fields.specs.At.{field-ended}
+use Rattle.fields.proofs.Laws.{field-short, field-cut, field-whole}
 use Rattle.fields.proofs.field_at.Statement.{statement}
 use Rattle.fields.proofs.field_at.Tie as tie
 

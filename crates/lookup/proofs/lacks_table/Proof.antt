@@ -1,7 +1,6 @@
 -- `lookup::lacks_table` meets its contract: each return is one case of the definition. Assumes nothing.
 use borrow.Author.Needs.{needs}
 use mathlib.Core.Path.{sym}
-use Prim.Native.Nat.{_-_}
 use borrow.Author.Tests.{eq-eqb, ne-eqb}
 use Rattle.lookup.specs.Lookup.{lacks}
 use Rattle.lookup.proofs.lacks_table.Statement.{statement}

@@ -1,7 +1,6 @@
 -- `lookup::no_table` meets its contract: each return is one case of the definition. Assumes nothing.
 use borrow.Author.Needs.{needs}
 use mathlib.Core.Path.{sym}
-use Prim.Native.Nat.{_-_}
 use borrow.Author.Tests.{lt-ltb, le-ltb}
 use Rattle.lookup.specs.Lookup.{untabled}
 use Rattle.lookup.proofs.no_table.Statement.{statement}

@@ -1,7 +1,6 @@
 -- `lookup::of_file` meets its contract: each return is one case of the definition. Assumes nothing.
 use borrow.Author.Needs.{needs}
 use mathlib.Core.Path.{ap, sym}
-use Prim.Native.Nat.{_-_}
 use Rattle.lookup.specs.Answers.{ofFile}
 use Rattle.lookup.proofs.of_file.Statement.{statement}
 use Rattle.lookup.proofs.of_file.Tie as tie

@@ -1,7 +1,6 @@
 -- `lookup::table` meets its contract: the case's walk decides whether the book is walked. Assumes nothing.
 use borrow.Author.Needs.{needs}
 use mathlib.Core.Path.{sym}
-use Prim.Native.Nat.{_-_}
 use borrow.Author.Tests.{lt-ltb, le-ltb}
 use Rattle.lookup.specs.Lookup.{tableBytes}
 use Rattle.lookup.specs.Final.{looked}

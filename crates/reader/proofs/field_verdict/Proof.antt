@@ -2,7 +2,7 @@
 use borrow.Author.Needs.{needs}
 use native.Mathlib.Omega.{arith}
 use mathlib.Core.Path.{ap, sym, _∙_}
-use Prim.Native.Nat.{_+_, _-_}
+use Prim.Native.Nat.{_+_}
 use denote.Ref.{now}
 use Rattle.reader.specs.Laws.{framed, field-short, field-frame, field-body, part-length}
 use Rattle.bodies.specs.Bodies.{badLength}

@@ -1,7 +1,6 @@
 -- `reader::finish` meets its contract: each return is one case of the definition. Assumes nothing.
 use borrow.Author.Needs.{needs}
 use mathlib.Core.Path.{ap}
-use Prim.Native.Nat.{_-_}
 use borrow.Author.Tests.{eq-eqb, ne-eqb}
 use Rattle.reader.specs.Reading.{atEnd}
 use Rattle.reader.specs.declared.Reading.the-variants.{Accepted}

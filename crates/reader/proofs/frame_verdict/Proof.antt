@@ -1,7 +1,6 @@
 -- `reader::frame_verdict` meets its contract: each return is one case of the definition. Assumes nothing.
 use borrow.Author.Needs.{needs}
 use mathlib.Core.Path.{sym}
-use Prim.Native.Nat.{_-_}
 use borrow.Author.Tests.{lt-ltb, le-ltb, eq-eqb, ne-eqb}
 use Rattle.reader.specs.Reading.{frameVerdict}
 use Rattle.reader.proofs.frame_verdict.Statement.{statement}

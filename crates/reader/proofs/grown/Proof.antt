@@ -1,6 +1,5 @@
 -- `reader::grown` meets its contract: each count is the definition's. Assumes nothing.
 use borrow.Author.Needs.{needs}
-use Prim.Native.Nat.{_-_}
 use Rattle.reader.specs.Reading.{after}
 use Rattle.reader.proofs.grown.Statement.{statement}
 use Rattle.reader.proofs.grown.Tie as tie

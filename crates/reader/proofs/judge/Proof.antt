@@ -1,7 +1,6 @@
 -- `reader::judge` meets its contract: the number decides which answer it is. Assumes nothing.
 use borrow.Author.Needs.{needs}
 use mathlib.Core.Path.{sym}
-use Prim.Native.Nat.{_-_}
 use Rattle.reader.specs.Laws.{field-bad, field-good}
 use Rattle.reader.proofs.judge.Statement.{statement}
 use Rattle.reader.proofs.judge.Tie as tie

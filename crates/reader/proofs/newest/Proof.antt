@@ -1,5 +1,4 @@
 -- `reader::newest` meets its contract: each return is one case of the definition. Assumes nothing.
-use Prim.Native.Nat.{_-_}
 use borrow.Author.Tests.{eq-eqb, ne-eqb}
 use Rattle.reader.specs.Reading.{newer}
 use Rattle.reader.proofs.newest.Statement.{statement}

@@ -1,6 +1,5 @@
 -- `reader::one_more` meets its contract: each return is one case of the definition. Assumes nothing.
 use borrow.Author.Needs.{needs}
-use Prim.Native.Nat.{_-_}
 use borrow.Author.Tests.{eq-eqb, ne-eqb}
 use Rattle.reader.specs.Reading.{counted}
 use Rattle.reader.proofs.one_more.Statement.{statement}

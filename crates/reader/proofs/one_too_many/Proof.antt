@@ -1,5 +1,4 @@
 -- `reader::one_too_many` meets its contract: each return is one case of the definition. Assumes nothing.
-use Prim.Native.Nat.{_-_}
 use borrow.Author.Tests.{eq-eqb, ne-eqb}
 use Rattle.reader.specs.Reading.{tooMany}
 use Rattle.reader.proofs.one_too_many.Statement.{statement}

@@ -1,5 +1,4 @@
 -- `reader::out_of_place` meets its contract: each return is one case of the definition. Assumes nothing.
-use Prim.Native.Nat.{_-_}
 use borrow.Author.Tests.{eq-eqb, ne-eqb}
 use Rattle.reader.specs.Reading.{outOfPlace}
 use Rattle.reader.proofs.out_of_place.Statement.{statement}

@@ -1,6 +1,5 @@
 -- `reader::passed` meets its contract: the field's own bytes say what is seen after it. Assumes nothing.
 use borrow.Author.Needs.{needs}
-use Prim.Native.Nat.{_-_}
 use Rattle.reader.specs.Reading.{next}
 use Rattle.reader.proofs.passed.Statement.{statement}
 use Rattle.reader.proofs.passed.Tie as tie

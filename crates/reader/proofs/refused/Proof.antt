@@ -1,7 +1,6 @@
 -- `reader::refused` meets its contract: each return is one case of the definition. Assumes nothing.
 use borrow.Author.Needs.{needs}
 use mathlib.Core.Path.{ap, sym}
-use Prim.Native.Nat.{_-_}
 use Rattle.reader.specs.Reading.{stopped}
 use Rattle.reader.specs.declared.Judged.{Judged}
 use Rattle.reader.proofs.refused.Statement.{statement}

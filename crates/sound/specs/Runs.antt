@@ -1,19 +1,19 @@
 -- What it means that a run was answered, or refused: the files, the arguments and the room, in this order. Each law takes the definition of a call apart
 -- by the first result that decides it. Assumes nothing.
-use mathlib.Core.Path.{_≡_, refl, sym, ap, _∙_, subst}
-use mathlib.Core.Bool.{Bool, true, false}
+use mathlib.Core.Path.{_≡_, sym, ap, _∙_, subst}
 use mathlib.Core.List.{List, [], _∷_}
-use Prim.Native.Nat.{ℕ, zero, suc, _≤_, _<_}
+use Prim.Native.Nat.{ℕ, _≤_, _<_}
 use native.Mathlib.Omega.{arith}
 use lib.ListN.{length}
 use lib.Dec.{leb, ltb}
 use borrow.Author.Tests.{ltb-false, leb-false}
-use Rattle.rules.specs.Refusals.{_when_, verdict, Refusal, Result, then, unless}
+use Rattle.rules.specs.Refusals.{_when_, verdict}
 use Rattle.rules.specs.Refusals.Fault.{noTrain, stopTooLate}
-use Rattle.rules.specs.Refusals.Result.{refused, answer}
+use Rattle.rules.specs.Refusals.Result.{answer}
 use Rattle.rules.specs.Files.{Case, files}
 use Rattle.rules.specs.Joint.{joint}
 use Rattle.rules.specs.Calls.{afterArguments, noSuchTrain, Run, runTo, stoppedRun, wholeRun, trainRun}
+use Rattle.sound.specs.Verdicts.{answer-answer, then-answer, unless-answer, verdict-unbroken}
 
 -- the files were accepted, and the run went to minute m and met no refusal
 pub record Answered (cs bk : List ℕ) (m : ℕ) (u : Run) : Type 0 where
@@ -22,35 +22,11 @@ pub record Answered (cs bk : List ℕ) (m : ℕ) (u : Run) : Type 0 where
   pub unrefused : joint (u .of) m .met ≡ 0
   pub state : u .state ≡ joint (u .of) m
 
--- an answer and a refusal are told apart
-abbrev Told : {A : Type 0} → Result A → Type 0
-Told (refused r) = ⊥
-Told (answer a) = Unit {0}
-
-not-refused : {A B : Type 0} {r : Refusal} {a : A} → refused r ≡ answer a → B
-not-refused e = absurd (subst Told (sym e) tt)
-
-abbrev got : {A : Type 0} → A → Result A → A
-got d (refused r) = d
-got d (answer a) = a
-
-answer-same : {A : Type 0} {a b : A} → answer a ≡ answer b → a ≡ b
-answer-same {a = a} e = ap (got a) e
-
--- what follows the files was answered only if the files were accepted
-then-answer : {A B : Type 0} (r : Result A) (go : A → Result B) (b : B) → then r go ≡ answer b → (a : A) × (r ≡ answer a) × (go a ≡ answer b)
-then-answer (refused f) go b e = not-refused e
-then-answer (answer a) go b e = (a, refl, e)
-
-unless-answer : {A B : Type 0} (n : ℕ) (go : A → Result B) (a : A) (b : B) → unless n 0 0 go a ≡ answer b → (n ≡ 0) × (go a ≡ answer b)
-unless-answer zero go a b e = (refl, e)
-unless-answer (suc n) go a b e = not-refused e
-
 -- a run to minute m that was answered
 run-answer : (m : ℕ) (C : Case) (u : Run) → runTo m C ≡ answer u → (C ≡ u .of) × (joint C m .met ≡ 0) × (u .state ≡ joint C m)
 run-answer m C u e =
-    let parts = unless-answer (joint C m .met) answer (record { of = C; state = joint C m }) u e in
-    let same = answer-same (parts .1) in
+    let parts = unless-answer (joint C m .met) 0 0 answer (record { of = C; state = joint C m }) u e in
+    let same = answer-answer (record { of = C; state = joint C m }) u (parts .1) in
     (ap (λ (r : Run). r .of) same, parts .0, sym (ap (λ (r : Run). r .state) same))
 
 answered : (cs bk : List ℕ) (m : ℕ) (C : Case) (u : Run) → files cs bk ≡ answer C → m ≤ C .head .lastMinute → runTo m C ≡ answer u → Answered cs bk m u
@@ -67,12 +43,10 @@ pub stopped-answer : (cs bk : List ℕ) (m : ℕ) (u : Run) → stoppedRun cs bk
 unfolding stoppedRun
 stopped-answer cs bk m u e =
     let parts = then-answer (files cs bk) (λ C. afterArguments (stopTooLate when ltb (C .head .lastMinute) m ∷ []) (runTo m) C) u e in
-    let rest = unless-answer (verdict (stopTooLate when ltb (parts .0 .head .lastMinute) m ∷ [])) (runTo m) (parts .0) u (parts .2) in
-    answered cs bk m (parts .0) u (parts .1) (ltb-false (parts .0 .head .lastMinute) m (kept (ltb (parts .0 .head .lastMinute) m) (rest .0))) (rest .1)
-  where
-    kept : (b : Bool) → verdict (stopTooLate when b ∷ []) ≡ 0 → b ≡ false
-    kept true h = absurd (omega (arith, h))
-    kept false h = refl
+    let C = parts .0 in
+    let rules = stopTooLate when ltb (C .head .lastMinute) m ∷ [] in
+    let rest = unless-answer (verdict rules) 0 0 (runTo m) C u (parts .2) in
+    answered cs bk m C u (parts .1) (ltb-false (C .head .lastMinute) m (verdict-unbroken rules (rest .0) .0)) (rest .1)
 
 pub whole-answer : (cs bk : List ℕ) (u : Run) → wholeRun cs bk ≡ answer u → Answered cs bk (u .of .head .lastMinute) u
 unfolding wholeRun
@@ -86,12 +60,9 @@ unfolding trainRun noSuchTrain
 train-answer cs bk k u e =
     let parts = then-answer (files cs bk) (λ C. afterArguments (noTrain when leb (length (C .trains)) k ∷ []) (runTo (C .head .lastMinute)) C) u e in
     let C = parts .0 in
-    let rest = unless-answer (verdict (noTrain when leb (length (C .trains)) k ∷ [])) (runTo (C .head .lastMinute)) C u (parts .2) in
+    let rules = noTrain when leb (length (C .trains)) k ∷ [] in
+    let rest = unless-answer (verdict rules) 0 0 (runTo (C .head .lastMinute)) C u (parts .2) in
     let same = run-answer (C .head .lastMinute) C u (rest .1) .0 in (
       subst (λ (m : ℕ). Answered cs bk m u) (ap (λ (D : Case). D .head .lastMinute) same) (answered cs bk (C .head .lastMinute) C u (parts .1) (omega arith) (rest .1)),
-      subst (λ (D : Case). k < length (D .trains)) same (leb-false (length (C .trains)) k (kept (leb (length (C .trains)) k) (rest .0))),
+      subst (λ (D : Case). k < length (D .trains)) same (leb-false (length (C .trains)) k (verdict-unbroken rules (rest .0) .0)),
     )
-  where
-    kept : (b : Bool) → verdict (noTrain when b ∷ []) ≡ 0 → b ≡ false
-    kept true h = absurd (omega (arith, h))
-    kept false h = refl
