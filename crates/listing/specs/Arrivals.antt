@@ -18,7 +18,8 @@ use Rattle.lists.specs.Sums.{sum-append, count-le}
 use Rattle.sound.specs.Ways.{same-true}
 use Rattle.simulation.specs.Places.{Asked, asked}
 use Rattle.simulation.specs.Orderly.{toGo}
-use Rattle.simulation.specs.Keeping.{servedList, run-keeps}
+use Rattle.lists.specs.Items.{servedList}
+use Rattle.simulation.specs.Keeping.{run-keeps}
 use Rattle.trace.specs.Longest.{serveEntry-grows}
 use Rattle.weights.specs.Room.{list-fits}
 

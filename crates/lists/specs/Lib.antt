@@ -6,3 +6,4 @@ pub mod Below
 pub mod Writes
 pub mod Folds
 pub mod Kept
+pub mod Items

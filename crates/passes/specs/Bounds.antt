@@ -17,7 +17,7 @@ use Rattle.sound.specs.Ways.{same-true, same-self}
 use Rattle.sound.specs.Trains.{anywhere, way-planned, train-in-time, planned-low}
 use Rattle.lists.specs.Every.{Every, every-append, every-left, every-right, every-one, every-keep, every-map, every-each, every-anywhere}
 use Rattle.lists.specs.Below.{every-below}
-use Rattle.simulation.specs.Keeping.{servedList}
+use Rattle.lists.specs.Items.{servedList}
 use Rattle.simulation.specs.Places.{asked}
 use Rattle.passes.specs.Passes.{pass, cleared, jointPasses}
 use Rattle.passes.specs.Marks.{Marks, joint-marks}

@@ -16,7 +16,7 @@ use Rattle.sound.specs.Ways.{same-true, after-every}
 use Rattle.sound.specs.Trains.{Known, way-known}
 use Rattle.codes.specs.Codes.{placeOf}
 use Rattle.simulation.specs.Places.{asked}
-use Rattle.trace.specs.Trace.{items-start}
+use Rattle.lists.specs.Items.{items-start}
 use Rattle.simulation.specs.Runs.{serveAll-nobody}
 use Rattle.passes.specs.Passes.{elementCodes}
 use Rattle.lists.specs.Folds.{fold-append, fold-map, fold-below}

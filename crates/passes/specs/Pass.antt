@@ -12,7 +12,7 @@ use Rattle.rules.specs.Turns.{Place, same, Served, served, State}
 use Rattle.rules.specs.Joint.{Cover, Entry, meets, pieces, serveEntry, jointRules}
 use Rattle.lists.specs.Each.{each-append, each-none}
 use Rattle.lists.specs.Every.{each-every, Every, every-more}
-use Rattle.simulation.specs.Keeping.{servedList}
+use Rattle.lists.specs.Items.{servedList}
 use Rattle.passes.specs.Passes.{asksFor, piecesAmong, serveAmong, passed, passList, passArrived}
 use Rattle.passes.specs.Walk.{asksFor-train, mine, metWith, walkOne, walk}
 use Rattle.passes.specs.Marks.{joint-own}

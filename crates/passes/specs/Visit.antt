@@ -20,8 +20,7 @@ use Rattle.lists.specs.Every.{Every, every-append, every-map, every-all, every-
 use Rattle.lists.specs.Sums.{count-le}
 use Rattle.simulation.specs.Askers.{Asking, next-first}
 use Rattle.simulation.specs.Places.{asked}
-use Rattle.trace.specs.Trace.{items-start}
-use Rattle.simulation.specs.Keeping.{servedRows, servedList, items-served}
+use Rattle.lists.specs.Items.{items-start, servedRows, servedList, items-served}
 use Rattle.simulation.specs.Runs.{askers, askers-served, serveAll-nobody}
 use Rattle.lists.specs.Tests.{and-true-first}
 use Rattle.passes.specs.Passes.{asksFor}

@@ -12,7 +12,7 @@ use Rattle.rules.specs.Refusals.{firstOf}
 use Rattle.rules.specs.Files.{Case}
 use Rattle.rules.specs.Turns.{Place, Mark, asks, Served, State, state, Rules}
 use Rattle.lists.specs.Every.{Every}
-use Rattle.simulation.specs.Keeping.{servedList}
+use Rattle.lists.specs.Items.{servedList}
 use Rattle.lists.specs.Tests.{and-true-first}
 use Rattle.trace.specs.Longest.{passes, Grows}
 use Rattle.trace.specs.Trace.{first-assoc}

@@ -1,6 +1,6 @@
 -- What each serving and each end of blocks keeps, the whole run keeps: the law by which an invariant is lifted to a run, single or joint.
 -- The rows that ask are fixed beforehand and none is added, so each asker served does ask for the element. Assumes nothing.
-use mathlib.Core.Path.{_≡_, refl, sym, ap, ap₂, _∙_, subst}
+use mathlib.Core.Path.{_≡_, refl, sym, ap, _∙_, subst}
 use mathlib.Core.Bool.{true, false, not, false≢true}
 use mathlib.Core.List.{List, [], _∷_, _++_, map}
 use Prim.Native.Nat.{ℕ, zero, suc, _≤_}
@@ -13,31 +13,12 @@ use Rattle.rules.specs.Files.{Case}
 use Rattle.rules.specs.Turns.{Place, Mark, elements, ended, asks, Served, State, state, Row, row, items, quiet, Turn, Rules, next, serveOne, serveAll, visit, minute, minutes, runFrom}
 use Rattle.rules.specs.Turns.Turn.{nobody, somebody}
 use Rattle.lists.specs.Every.{Every, every-append, every-left, every-right, every-map, every-all}
-use Rattle.trace.specs.Trace.{items-quiet, items-start, items-append}
+use Rattle.lists.specs.Items.{servedRows, servedList, items-start, items-asker, items-served}
 use Rattle.simulation.specs.Askers.{Asking, Chosen, next-chosen}
 
 -- ---- the rows around an asker
 
 module _ {A : Type 0} where
-  -- the rows after an asker is served
-  abbrev pub servedRows : Served A → List (Row A) → List (Row A) → List (Row A)
-  servedRows s b c = b ++ quiet (s .rows) ++ c ++ quiet (s .added)
-
-  -- the list after an asker is served
-  abbrev pub servedList : Served A → List A → List A → List A
-  servedList s b c = b ++ s .rows ++ c ++ s .added
-
-  pub items-asker : (b : List (Row A)) (a : A) (c : List (Row A)) → items (b ++ (row a true ∷ c)) ≡ items b ++ (a ∷ items c)
-  items-asker b a c = items-append b (row a true ∷ c)
-
-  pub items-served : (s : Served A) (b c : List (Row A)) → items (servedRows s b c) ≡ servedList s (items b) (items c)
-  items-served s b c =
-      items-append (b ++ quiet (s .rows) ++ c) (quiet (s .added))
-      ∙ ap₂ _++_
-      (items-append (b ++ quiet (s .rows)) c
-      ∙ ap (λ (z : List A). z ++ items c) (items-append b (quiet (s .rows)) ∙ ap (λ (z : List A). items b ++ z) (items-quiet (s .rows))))
-      (items-quiet (s .added))
-
   -- rows that do not ask have whatever asking rows have
   pub quiet-asking : (R : Rules A) (P : Mark → Type 0) (l : List A) → Every (Asking R P) (quiet l)
   quiet-asking R P l = every-map (λ a. Unit) (Asking R P) (λ a. row a false) (λ a u k. absurd (false≢true k)) l (every-all (λ a. Unit) (λ a. tt) l)

@@ -19,8 +19,8 @@ use Rattle.sound.specs.Facts.{Sound}
 use Rattle.lists.specs.Every.{Every, every-right, every-keep}
 use Rattle.lists.specs.Sums.{sum-append, count-le, count-none}
 use Rattle.simulation.specs.Askers.{Asking, First, Chosen, next-chosen, next-nobody, next-first}
-use Rattle.trace.specs.Trace.{items-start}
-use Rattle.simulation.specs.Keeping.{servedRows, servedList, items-asker, items-served, asking-start, served-asking}
+use Rattle.lists.specs.Items.{items-start, servedRows, servedList, items-asker, items-served}
+use Rattle.simulation.specs.Keeping.{asking-start, served-asking}
 use Rattle.simulation.specs.Orderly.{Orderly}
 use Rattle.simulation.specs.Steps.{serve-orderly, end-orderly}
 use Rattle.simulation.specs.View.{Choice, view, viewRows, viewServed, view-append, viewRows-append, viewRows-cons, viewRows-start, items-view, viewRows-asking, viewRows-none, view-end}

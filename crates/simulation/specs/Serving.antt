@@ -17,7 +17,7 @@ use Rattle.lists.specs.Every.{Every, every-append, every-left, every-right, eve
 use Rattle.simulation.specs.Covers.{Fits, covers-length}
 use Rattle.simulation.specs.Cutting.{verdicts, hits}
 use Rattle.simulation.specs.Parts.{Parts, parts-length, carry-parts}
-use Rattle.simulation.specs.Keeping.{servedRows, servedList}
+use Rattle.lists.specs.Items.{servedRows, servedList}
 use Rattle.simulation.specs.Orderly.{Orderly}
 use Rattle.simulation.specs.View.{Choice, view, viewRows, viewServed, meets-covers, view-append, view-cons, viewRows-append, viewRows-quiet, held-view, entering-view, meets-hits, pieces-verdict, others-on}
 

@@ -17,7 +17,7 @@ use Rattle.rules.specs.Single.{trainsOn, enters, serveTrain}
 use Rattle.sound.specs.Facts.{Sound}
 use Rattle.lists.specs.Every.{Every, every-append, every-left, every-right, every-one, every-keep, every-all}
 use Rattle.lists.specs.Sums.{tick-le, sum-append, sum-each, sum-every, sum-less, sum-one-le, sum-keep-le}
-use Rattle.simulation.specs.Keeping.{servedList}
+use Rattle.lists.specs.Items.{servedList}
 use Rattle.sound.specs.Ways.{same-true}
 use Rattle.simulation.specs.Places.{asked}
 use Rattle.simulation.specs.Orderly.{isOn, isAt, isStanding, toGo, isBefore, reach, Orderly, trainsOn-count}

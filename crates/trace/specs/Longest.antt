@@ -19,7 +19,8 @@ use Rattle.lists.specs.Tests.{or-true-second, or-brings, or-middle}
 use Rattle.lists.specs.Every.{any-append}
 use Rattle.lists.specs.Sums.{count-le, length-keep}
 use Rattle.lists.specs.Below.{any-below}
-use Rattle.trace.specs.Trace.{rowsAfter, listsOne, listsAll, visitLists, visitsLists, minuteLists, minutesLists, runLists, items-start, Splits, next-splits, items-after}
+use Rattle.lists.specs.Items.{items-start}
+use Rattle.trace.specs.Trace.{rowsAfter, listsOne, listsAll, visitLists, visitsLists, minuteLists, minutesLists, runLists, Splits, next-splits, items-after}
 
 -- the list has more items than the room
 abbrev pub passes : {A : Type 0} → ℕ → List A → Bool

@@ -1,6 +1,6 @@
 -- The lists of a run: the first one and the list after each asking item was served, in the order of serving; what the run has met is what the first of
 -- them that is refused is refused for. The definitions go step by step with the run, and so does the induction. Assumes nothing.
-use mathlib.Core.Path.{_≡_, refl, sym, ap, ap₂, _∙_}
+use mathlib.Core.Path.{_≡_, refl, sym, ap, _∙_}
 use mathlib.Core.Bool.{Bool, true, false, not, cond}
 use mathlib.Core.List.{List, [], _∷_, _++_, map, map-append}
 use Prim.Native.Nat.{ℕ, zero, suc}
@@ -11,8 +11,9 @@ use borrow.Author.Tests.{lt-ltb}
 use Rattle.rules.specs.Lists.{keep, fold}
 use Rattle.rules.specs.Refusals.{firstOf}
 use Rattle.rules.specs.Files.{Case}
-use Rattle.rules.specs.Turns.{Place, State, state, Row, row, items, quiet, Turn, Rules, sooner, ended, asks, elements, before, next, serveOne, serveAll, visit, minute, minutes, runFrom}
+use Rattle.rules.specs.Turns.{Place, State, state, Row, row, items, Turn, Rules, sooner, ended, asks, elements, before, next, serveOne, serveAll, visit, minute, minutes, runFrom}
 use Rattle.rules.specs.Turns.Turn.{nobody, somebody}
+use Rattle.lists.specs.Items.{servedRows, servedList, items-served}
 
 -- ---- the definitions
 
@@ -24,7 +25,7 @@ firstMet (n ∷ l) = firstOf (ltb 0 n) n (firstMet l)
 module _ {A : Type 0} (C : Case) (R : Rules A) where
   -- the rows after an asker was served
   abbrev pub rowsAfter : ℕ → Place → List (Row A) → List (Row A) → A → List (Row A) → List (Row A)
-  rowsAfter t e rs b a c = let s = R .serve t e (items rs) a in b ++ quiet (s .rows) ++ c ++ quiet (s .added)
+  rowsAfter t e rs b a c = servedRows (R .serve t e (items rs) a) b c
 
   abbrev pub listsOne : ℕ → Place → (List (Row A) → List (List A)) → List (Row A) → Turn A → List (List A)
   listsOne t e go rs nobody = []
@@ -55,19 +56,7 @@ module _ {A : Type 0} (C : Case) (R : Rules A) where
   unfoldable pub runLists : List A → ℕ → List (List A)
   runLists l m = l ∷ minutesLists (suc m) (state l [] (R .check l))
 
--- ---- rows
-
-module _ {A : Type 0} where
-  pub items-quiet : (l : List A) → items (quiet l) ≡ l
-  items-quiet [] = refl
-  items-quiet (a ∷ l) = ap (λ (r : List A). a ∷ r) (items-quiet l)
-
-  pub items-start : (f : A → Bool) (l : List A) → items (map (λ a. row a (f a)) l) ≡ l
-  items-start f [] = refl
-  items-start f (a ∷ l) = ap (λ (r : List A). a ∷ r) (items-start f l)
-
-  pub items-append : (s t : List (Row A)) → items (s ++ t) ≡ items s ++ items t
-  items-append s t = map-append (λ r. r .item) s t
+-- ---- the asker
 
 -- the asker stands in its row
 abbrev pub Splits : {A : Type 0} → List (Row A) → Turn A → Type 0
@@ -92,13 +81,8 @@ module _ {A : Type 0} (C : Case) (R : Rules A) where
 
   -- the list after an asker was served
   pub items-after : (t : ℕ) (e : Place) (rs b : List (Row A)) (a : A) (c : List (Row A))
-      → items (rowsAfter C R t e rs b a c) ≡ items b ++ R .serve t e (items rs) a .rows ++ items c ++ R .serve t e (items rs) a .added
-  items-after t e rs b a c =
-      let s = R .serve t e (items rs) a in
-      items-append (b ++ quiet (s .rows) ++ c) (quiet (s .added))
-      ∙ ap₂ (λ (l r : List A). l ++ r)
-      (items-append (b ++ quiet (s .rows)) c ∙ ap (λ (l : List A). l ++ items c) (items-append b (quiet (s .rows)) ∙ ap (λ (l : List A). items b ++ l) (items-quiet (s .rows))))
-      (items-quiet (s .added))
+      → items (rowsAfter C R t e rs b a c) ≡ servedList (R .serve t e (items rs) a) (items b) (items c)
+  items-after t e rs b a c = items-served (R .serve t e (items rs) a) b c
 
 -- ---- what is met
 

@@ -14,7 +14,8 @@ use Rattle.simulation.specs.Parts.{Parts}
 use Rattle.simulation.specs.Serving.{Proper, pieces-proper, serve-covers}
 use Rattle.simulation.specs.Start.{first-proper}
 use Rattle.lists.specs.Every.{Every, every-append, every-left, every-right, every-keep}
-use Rattle.trace.specs.Trace.{rowsAfter, listsOne, listsAll, visitLists, visitsLists, minuteLists, minutesLists, runLists, items-start, Splits, next-splits, items-after}
+use Rattle.lists.specs.Items.{items-start}
+use Rattle.trace.specs.Trace.{rowsAfter, listsOne, listsAll, visitLists, visitsLists, minuteLists, minutesLists, runLists, Splits, next-splits, items-after}
 
 -- each item of the parts of a serving has the property
 pub record ServedAll {A : Type 0} (p : A → Type 0) (s : Served A) : Type 0 where
