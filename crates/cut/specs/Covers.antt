@@ -5,6 +5,7 @@ use mathlib.Core.Bool.{Bool, true, false, not, _||_, cond}
 use mathlib.Core.List.{List, [], _∷_, _++_, map}
 use Prim.Native.Nat.{ℕ, zero, suc, _+_, _-_, _*_, _<_}
 use native.Mathlib.Omega.{arith}
+use lib.ListN.{length}
 use lib.Bits.{bitAnd, and-block, and-self}
 use lib.Dec.{eqb}
 use Rattle.rules.specs.Lists.{one, any}
@@ -22,7 +23,7 @@ use Rattle.cut.specs.Outside.{first-of, rest-of, outsideBy, outs-whole}
 pub image-common : {n : ℕ} {s u : List ℕ} {v x : ℕ} → Delays n 0 s v → Delays n 0 u x → setImage (common s u) ≡ bitAnd (setImage s) (setImage u)
 image-common r t = rw (image-delays (common-delays r t), image-delays r, image-delays t)
 
-pub image-small : {s : List ℕ} {v : ℕ} → Delays 8 0 s v → setImage s < 256
+image-small : {s : List ℕ} {v : ℕ} → Delays 8 0 s v → setImage s < 256
 image-small r = omega (arith, image-delays r, delays-small r)
 
 pub inside-packed : {b n : ℕ} {p q : Cover} → Sets b n p → Sets b n q → bitAnd (packedIn b p) (packedIn b q) ≡ packedIn b (inside p q)
@@ -101,3 +102,8 @@ outsides-sets {b} {n} (more {s = s} {p = p} r f) (more {s = u} {p = q} t g) =
     every-append (Sets b n) (one (not (isEmpty (without s (common s u)))) (without s (common s u) ∷ p)) (map (λ w. common s u ∷ w) (outsides p (inside p q)))
     (every-one (Sets b n) (not (isEmpty (without s (common s u)))) (without s (common s u) ∷ p) (λ e. more (lost-delays r t) f))
     (every-map (Sets _ _) (Sets b n) (λ w. common s u ∷ w) (λ w h. more (common-delays r t) h) (outsides p (inside p q)) (outsides-sets f g))
+
+-- a packable cover has a set for each of n trains, and a byte holds each
+pub sets-fit : {b n : ℕ} {p : Cover} → Sets b n p → (length p ≡ n) × Every (λ s. setImage s < 256) p
+sets-fit none = (refl, tt)
+sets-fit (more r f) = (ap suc (sets-fit f .0), (image-small r, sets-fit f .1))

@@ -19,7 +19,8 @@ use Rattle.weights.specs.Room.{met-minutes, list-fits}
 use Rattle.passes.specs.Joint.{joint-passes}
 use Rattle.passes.specs.Bounds.{ByteDelays, Bounded, bounded-train, joint-bounded}
 use Rattle.codes.specs.Codes.{stateOf}
-use Rattle.cut.specs.Packed.{packed, Packable}
+use Rattle.cut.specs.Packed.{packed}
+use Rattle.cut.specs.Covers.{sets-fit}
 use Rattle.rows.specs.Rows as rows
 use Rattle.entries.specs.Coded.{bounded-fit}
 use Rattle.entries.specs.Agreeing.{good-every}
@@ -51,11 +52,13 @@ words-same (r ∷ es) = ap (λ (l : List ℕ). stateOf (r .mark) ∷ packed (r .
 
 module _ (C : Case) (sound : Sound C) where
   entry-small : (r : Entry) → encoded.Good C r → SmallEntry (length (C .trains)) r
-  entry-small r g = record {
-    train = omega (arith, bounded-train C sound (r .mark) (g .0));
-    mark = bounded-fit C sound (r .mark) (g .0);
-    cover = subst (λ (n : ℕ). Packable n (r .cover)) (sound .tabled) (encoded.proper-packable C sound (r .cover) (g .1));
-  }
+  entry-small r g =
+      let fits = sets-fit (encoded.proper-packable C sound (r .cover) (g .1)) in
+      record {
+        train = omega (arith, bounded-train C sound (r .mark) (g .0));
+        mark = bounded-fit C sound (r .mark) (g .0);
+        cover = record { few = omega (arith, sound .few-trains); per-train = fits .0 ∙ sound .tabled; sets = fits .1 };
+      }
 
   module _ (bytes : ByteDelays C) (m : ℕ) (within : m ≤ C .head .lastMinute) where
     list-small : Every (SmallEntry (length (C .trains))) (joint C m .list)

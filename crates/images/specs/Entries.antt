@@ -3,7 +3,7 @@
 use mathlib.Core.Path.{_≡_, refl, sym, ap, ap₂, _∙_}
 use mathlib.Core.Bool.{Bool, cond}
 use mathlib.Core.List.{List, [], _∷_, _++_, map}
-use Prim.Native.Nat.{ℕ, zero, suc, _+_, _-_, _*_, _/_, _%_, _≤_}
+use Prim.Native.Nat.{ℕ, zero, suc, _+_, _-_, _*_, _/_, _%_, _≤_, _<_}
 use native.Mathlib.Nat.{mod-eq-of-lt, div-div-eq-div-mul}
 use native.Mathlib.Omega.{arith}
 use lib.ListN.{length, getD, take, replicate, length-take}
@@ -12,15 +12,14 @@ use Rattle.rules.specs.Lists.{each, below}
 use Rattle.rules.specs.Files.{mostTrains}
 use Rattle.rules.specs.Joint.{Cover, Entry, weightAt}
 use Rattle.rules.specs.Calls.{bytes, setImage, coverImage, rowImage, Run, weightsImage}
-use Rattle.cut.specs.Packed.{packedIn, packed, Sets, Packable}
-use Rattle.cut.specs.Packed.Sets.{none, more}
+use Rattle.lists.specs.Every.{Every}
+use Rattle.cut.specs.Packed.{packedIn, packed}
 use Rattle.cut.specs.Outside.{first-of, rest-of}
-use Rattle.cut.specs.Covers.{image-small}
 use Rattle.codes.specs.Codes.{stateOf}
 use Rattle.codes.specs.States.{mark-state}
 use Rattle.lists.specs.Below.{each-span-next, each-below-same}
 use Rattle.images.specs.Below.{each-blocks, each-take}
-use Rattle.images.specs.Rows.{rowOf, markBytes, setByte, coverBytes, rowBytes, imageOfRows, imageOfWords, SmallEntry, Held, Weighed}
+use Rattle.images.specs.Rows.{rowOf, markBytes, setByte, coverBytes, rowBytes, imageOfRows, imageOfWords, SmallCover, SmallEntry, Held, Weighed}
 
 -- ---- covers
 
@@ -38,22 +37,25 @@ bytesFrom-none : (m k n c : ℕ) → n ≤ k → bytesFrom m k n c ≡ replicate
 bytesFrom-none zero k n c h = refl
 bytesFrom-none (suc m) k n c h = ap₂ _∷_ (ap (λ (b : Bool). cond b (c % 256) 0) (le-ltb k n h)) (bytesFrom-none m (suc k) n (c / 256) (omega arith))
 
-bytesFrom-packed : {m j : ℕ} {p : Cover} → Sets m j p → (k n : ℕ) → n ≡ k + j → bytesFrom m k n (packedIn m p) ≡ map setImage p ++ replicate (m - length p) 0
+bytesFrom-packed : (m : ℕ) (p : Cover) → length p ≤ m → Every (λ s. setImage s < 256) p → (k n : ℕ) → n ≡ k + length p
+    → bytesFrom m k n (packedIn m p) ≡ map setImage p ++ replicate (m - length p) 0
 unfolding packedIn
-bytesFrom-packed {m} none k n e =
+bytesFrom-packed m [] h q k n e =
     let all : m ≡ m - 0 = omega arith in
     bytesFrom-none m k n (packedIn m []) (omega arith) ∙ ap (λ (i : ℕ). replicate {A = ℕ} i 0) all
-bytesFrom-packed (more {b} {s = s} {p = p} r f) k n e =
-    let left : b - length p ≡ suc b - suc (length p) = omega arith in
+bytesFrom-packed zero (s ∷ p) h q k n e = absurd (omega arith)
+bytesFrom-packed (suc m) (s ∷ p) h q k n e =
+    let left : m - length p ≡ suc m - suc (length p) = omega arith in
     ap₂ _∷_
-    (ap (λ (t : Bool). cond t ((packedIn b p * 256 + setImage s) % 256) 0) (lt-ltb k n (omega arith)) ∙ first-of (packedIn b p) (setImage s) (image-small r))
-    (ap (bytesFrom b (suc k) n) (rest-of (packedIn b p) (setImage s) (image-small r))
-    ∙ bytesFrom-packed f (suc k) n (omega arith)
+    (ap (λ (t : Bool). cond t ((packedIn m p * 256 + setImage s) % 256) 0) (lt-ltb k n (omega arith)) ∙ first-of (packedIn m p) (setImage s) (q .0))
+    (ap (bytesFrom m (suc k) n) (rest-of (packedIn m p) (setImage s) (q .0))
+    ∙ bytesFrom-packed m p (omega arith) (q .1) (suc k) n (omega arith)
     ∙ ap (λ (i : ℕ). map setImage p ++ replicate {A = ℕ} i 0) left)
 
-pub cover-image : (n : ℕ) (p : Cover) → Packable n p → coverBytes n (packed p) ≡ coverImage p
+pub cover-image : (n : ℕ) (p : Cover) → SmallCover n p → coverBytes n (packed p) ≡ coverImage p
 unfolding coverImage
-cover-image n p h = sym (bytesFrom-eight n (packed p)) ∙ bytesFrom-packed h 0 n (omega arith)
+cover-image n p h =
+    sym (bytesFrom-eight n (packed p)) ∙ bytesFrom-packed 8 p (omega (arith, h .few, h .per-train)) (h .sets) 0 n (omega (arith, h .per-train))
 
 -- ---- rows
 

@@ -8,10 +8,10 @@ use lib.Dec.{ltb}
 use Rattle.rules.specs.Lists.{each, below}
 use Rattle.rules.specs.Files.{Case, mostTrains}
 use Rattle.rules.specs.Turns.{kindOf, numberOf}
-use Rattle.rules.specs.Joint.{Entry, weightAt}
-use Rattle.rules.specs.Calls.{bytes}
+use Rattle.rules.specs.Joint.{Cover, Entry, weightAt}
+use Rattle.rules.specs.Calls.{bytes, setImage}
 use Rattle.lists.specs.Every.{Every}
-use Rattle.cut.specs.Packed.{packed, Packable}
+use Rattle.cut.specs.Packed.{packed}
 use Rattle.codes.specs.Codes.{stateOf, markOf}
 use Rattle.codes.specs.States.{Fit}
 
@@ -59,11 +59,16 @@ imageOfWords ws = each (bytes 8) ws
 
 -- ---- what an entry has to be for its words to tell it
 
--- its mark fits a state, and its cover has a set of delays for each of n trains
+-- one set for each of n trains, at most eight, and a byte holds each
+pub record SmallCover (n : ℕ) (p : Cover) : Type 0 where
+  pub few : n ≤ 8
+  pub per-train : length p ≡ n
+  pub sets : Every (λ s. setImage s < 256) p
+
 pub record SmallEntry (n : ℕ) (r : Entry) : Type 0 where
   pub train : r .mark .train < 8
   pub mark : Fit (r .mark)
-  pub cover : Packable n (r .cover)
+  pub cover : SmallCover n (r .cover)
 
 -- the words begin with those of the entries, each of them small
 pub record Held (n : ℕ) (es : List Entry) (rows : List ℕ) : Type 0 where
