@@ -49,7 +49,7 @@ fn viewed_files() -> Vec<Vec<u8>> {
     files.extend((0..=station(1).len()).map(|length| station(1)[..length].to_vec()));
     files.push([vec![0; 4_094], vec![1, 255]].concat());
     files.push([field(3, &[0; 255]), vec![2, 255, 255], vec![0; 300]].concat());
-    let pairs = kept("crates/judge/stdin");
+    let pairs = kept("crates/tool_judge/stdin");
     let mut rest = &pairs[..];
     for _ in 0..60 {
         let (case, book) = (
@@ -86,7 +86,7 @@ fn the_proved_viewer_gives_the_same() {
         .iter()
         .flat_map(|file| [&(file.len() as u16).to_be_bytes()[..], file].concat())
         .collect();
-    assert_eq!(packed, kept("crates/view/stdin"));
+    assert_eq!(packed, kept("crates/tool_view/stdin"));
     let printed: String = files.iter().map(|file| lines(file)).collect();
-    assert_eq!(printed.as_bytes(), kept("crates/view/stdout"));
+    assert_eq!(printed.as_bytes(), kept("crates/tool_view/stdout"));
 }

@@ -4,7 +4,7 @@ ghost use mathlib.Core.Bool.{true, false};
 ghost use Prim.Native.Nat.{_*_, _≤_, _<_};
 ghost use lib.ListN.{length, getD};
 ghost use lib.Seq.{slice};
-ghost use Rattle.lists.specs.Every.{Every};
+ghost use Rattle.theory_lists.specs.Every.{Every};
 ghost use Rattle.rows.specs.Rows.{row, rowsOf, rowsIn, rowAt, Begins};
 ghost use Rattle.weigh.specs.Weigh.{Small};
 ghost use Rattle.asking.specs.Ask.{dueOf, asksOf, reachOf, stirsOf, capOf, jobOf, metFor, Before, Within};

@@ -5,7 +5,7 @@ use mathlib.Core.List.{List}
 use Prim.Native.Nat.{ℕ, _+_, _/_, _%_, _≤_, _<_}
 use lib.ListN.{take, getD}
 use lib.Dec.{eqb}
-use Rattle.lists.specs.Every.{Every}
+use Rattle.theory_lists.specs.Every.{Every}
 use Rattle.rows.specs.Rows.{Row, rowsOf, endedOf, sweptOf}
 use Rattle.quiet.specs.Parts.{Sub}
 use Rattle.waiting.specs.Calm.{waitsOf, spot, spotOf, Calm, Told}

@@ -8,8 +8,8 @@ use borrow.Author.Tests.{not-true, eqb-true, eqb-false, le-ltb, ltb-true, ltb-fa
 use lib.ListN.{length, take, getD}
 use lib.Dec.{eqb, ltb}
 use Rattle.rules.specs.Lists.{one, keep}
-use Rattle.lists.specs.Every.{Every, every-append, every-more, every-keep}
-use Rattle.lists.specs.Kept.{keep-passes}
+use Rattle.theory_lists.specs.Every.{Every, every-append, every-more, every-keep}
+use Rattle.theory_lists.specs.Kept.{keep-passes}
 use Rattle.rows.specs.Rows.{Row, rowsOf, rowsIn, rowAt, endedOf, sweptOf}
 use Rattle.rows.specs.Written.{rowsIn-more}
 use Rattle.rows.specs.Swept.{Closing, next-row}

@@ -3,7 +3,7 @@ ghost use mathlib.Core.Path.{_≡_};
 ghost use mathlib.Core.Bool.{false};
 ghost use Prim.Native.Nat.{_+_, _*_, _/_, _≤_, _<_};
 ghost use lib.ListN.{length, take};
-ghost use Rattle.lists.specs.Every.{Every};
+ghost use Rattle.theory_lists.specs.Every.{Every};
 ghost use Rattle.rows.specs.Rows.{rowsOf, rowsIn, endedOf, sweptOf};
 ghost use Rattle.waiting.specs.Notes.{Flagged};
 ghost use Rattle.visiting.specs.Visit.{Kept, Ways, Noted};

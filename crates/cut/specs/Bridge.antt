@@ -8,7 +8,7 @@ use lib.ListN.{length, length-map}
 use lib.Dec.{leb, ltb}
 use Rattle.rules.specs.Lists.{one, each, keep}
 use Rattle.rules.specs.Joint.{Cover, inside, apart, outsides, Piece, cut, carry}
-use Rattle.lists.specs.Every.{Every}
+use Rattle.theory_lists.specs.Every.{Every}
 use Rattle.cut.specs.Cut.{Part, outs, turn, carried, heldOf, enteringOf}
 use Rattle.cut.specs.Packed.{packed, packedPiece, Packable}
 use Rattle.cut.specs.Covers.{inside-packed, inside-sets, full-packed, outs-are, outsides-sets}

@@ -11,7 +11,7 @@ use lib.Dec.{eqb}
 use Rattle.rules.specs.Lists.{one, any}
 use Rattle.rules.specs.Joint.{Cover, common, without, isEmpty, inside, apart, outsides}
 use Rattle.rules.specs.Calls.{setImage}
-use Rattle.lists.specs.Every.{Every, every-append, every-one, every-map}
+use Rattle.theory_lists.specs.Every.{Every, every-append, every-one, every-map}
 use Rattle.cut.specs.Cut.{fullOf, outs}
 use Rattle.cut.specs.Packed.{packedIn, packed, Delays, Sets, Packable}
 use Rattle.cut.specs.Packed.Sets.{none, more}

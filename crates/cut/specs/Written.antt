@@ -8,8 +8,8 @@ use native.Mathlib.Omega.{arith}
 use lib.ListN.{length, take, length-append, length-take}
 use lib.Seq.{length-sets, take-all}
 use Rattle.rules.specs.Lists.{one, keep}
-use Rattle.lists.specs.Each.{each-append}
-use Rattle.lists.specs.Writes.{take-append, sets-append}
+use Rattle.theory_lists.specs.Each.{each-append}
+use Rattle.theory_lists.specs.Writes.{take-append, sets-append}
 use Rattle.cut.specs.declared.Pieces.{Pieces}
 use Rattle.cut.specs.Cut.{Part, heldOf, enteringOf, Room, fitting, Wrote}
 

@@ -12,22 +12,22 @@ use Rattle.rules.specs.Joint.{Entry, joint, total}
 use Rattle.rules.specs.Listing.{listing}
 use Rattle.rules.specs.Figures as rules
 use Rattle.rules.specs.Calls.{Run, filled, textOf}
-use Rattle.sound.specs.Facts.{Sound}
-use Rattle.sound.specs.Accepted.{accepted-sound}
-use Rattle.sound.specs.Runs.{Answered}
-use Rattle.codes.specs.Tables.{tables}
-use Rattle.images.specs.Rows.{Weighed}
-use Rattle.listing.specs.Text.{Listed, Prints}
-use Rattle.listing.specs.Suffices.{listing-suffices}
-use Rattle.demands.specs.Demands.{seen}
-use Rattle.figures.specs.Sums as figures
-use Rattle.figures.specs.Weighed.{holds-weighed, holds-planned}
-use Rattle.figures.specs.declared.Figures.{Figures}
-use Rattle.figures.specs.Answers.{figuresAnswer, Holds}
+use Rattle.theory_sound.specs.Facts.{Sound}
+use Rattle.theory_sound.specs.Accepted.{accepted-sound}
+use Rattle.theory_sound.specs.Runs.{Answered}
+use Rattle.theory_codes.specs.Tables.{tables}
+use Rattle.out_images.specs.Rows.{Weighed}
+use Rattle.out_listing.specs.Text.{Listed, Prints}
+use Rattle.out_listing.specs.Suffices.{listing-suffices}
+use Rattle.theory_demands.specs.Demands.{seen}
+use Rattle.out_figures.specs.Sums as figures
+use Rattle.out_figures.specs.Weighed.{holds-weighed, holds-planned}
+use Rattle.out_figures.specs.declared.Figures.{Figures}
+use Rattle.out_figures.specs.Answers.{figuresAnswer, Holds}
 use Rattle.desk.specs.declared.Answer.{Answer}
 use Rattle.desk.specs.Answers.{answered}
 use Rattle.desk.specs.Steps.{Printable, Printed, Measurable, Measured}
-use Rattle.codes.specs.Lookups.{table-plan}
+use Rattle.theory_codes.specs.Lookups.{table-plan}
 
 -- ---- the listing
 

@@ -8,8 +8,8 @@ use Rattle.rules.specs.Refusals.{Refusal, Result}
 use Rattle.rules.specs.Refusals.Result.{refused, answer}
 use Rattle.rules.specs.Calls.{Memory, Lent}
 use Rattle.rules.specs.Figures as rules
-use Rattle.figures.specs.declared.Figures.{Figures}
-use Rattle.figures.specs.Answers.{numberOf, valueOf, figuresAnswer, noFigures}
+use Rattle.out_figures.specs.declared.Figures.{Figures}
+use Rattle.out_figures.specs.Answers.{numberOf, valueOf, figuresAnswer, noFigures}
 use Rattle.desk.specs.declared.Answer.{Answer}
 use Rattle.desk.specs.declared.TrainFigures.{TrainFigures}
 

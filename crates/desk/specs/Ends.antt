@@ -11,10 +11,10 @@ use Rattle.rules.specs.Refusals.{Result, refuse}
 use Rattle.rules.specs.Refusals.Result.{refused, answer}
 use Rattle.rules.specs.Figures as rules
 use Rattle.rules.specs.Calls.{Run, stoppedRun, wholeRun, trainRun, textOf, filled, Memory, short, Lent, lent, call, runCall, listingCall, figuresCall}
-use Rattle.codes.specs.Tables as codes
-use Rattle.images.specs.Rows.{Weighed}
-use Rattle.figures.specs.declared.Figures.{Figures}
-use Rattle.figures.specs.Answers.{figuresAnswer, noFigures}
+use Rattle.theory_codes.specs.Tables as codes
+use Rattle.out_images.specs.Rows.{Weighed}
+use Rattle.out_figures.specs.declared.Figures.{Figures}
+use Rattle.out_figures.specs.Answers.{figuresAnswer, noFigures}
 use Rattle.desk.specs.declared.Answer.{Answer}
 use Rattle.desk.specs.declared.TrainFigures.{TrainFigures}
 use Rattle.desk.specs.Answers.{refusedWith, answered, answerOf, trainFigures, figuresOf, lentTwo, lentThree, Gives, GivesText}

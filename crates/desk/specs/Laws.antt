@@ -14,14 +14,14 @@ use Rattle.rules.specs.Refusals.Result.{refused, answer}
 use Rattle.rules.specs.Files.{Case, files, word}
 use Rattle.rules.specs.Joint.{joint}
 use Rattle.rules.specs.Calls.{afterArguments, Run, runTo, noSuchTrain, stoppedRun, wholeRun, trainRun, filled}
-use Rattle.sound.specs.Places.{Told, files-told}
-use Rattle.lookup.specs.declared.Sizes.{Sizes}
-use Rattle.lookup.specs.declared.Files.{Files}
-use Rattle.lookup.specs.declared.Files.the-variants.{Sound, Unsound}
-use Rattle.lookup.specs.Answers.{filesOf}
-use Rattle.arguments.specs.Arguments.{forTrain, forStop}
-use Rattle.arguments.specs.Laws.{minute-agrees}
-use Rattle.images.specs.Rows.{Held}
+use Rattle.theory_sound.specs.Places.{Told, files-told}
+use Rattle.file_lookup.specs.declared.Sizes.{Sizes}
+use Rattle.file_lookup.specs.declared.Files.{Files}
+use Rattle.file_lookup.specs.declared.Files.the-variants.{Sound, Unsound}
+use Rattle.file_lookup.specs.Answers.{filesOf}
+use Rattle.file_arguments.specs.Arguments.{forTrain, forStop}
+use Rattle.file_arguments.specs.Laws.{minute-agrees}
+use Rattle.out_images.specs.Rows.{Held}
 use Rattle.desk.specs.declared.Answer.{Answer}
 use Rattle.desk.specs.Answers.{refusedWith, answered, answerOf}
 use Rattle.desk.specs.Steps.{Fits, Begins, Start, runOf, filesAnswer, Tells, Came, Ran, Filled, entries, rowsAfter, weightsAfter, InWords, Laid}

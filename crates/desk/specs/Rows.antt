@@ -11,14 +11,14 @@ use Rattle.rules.specs.Lists.{each, any, below}
 use Rattle.rules.specs.Files.{Case, files}
 use Rattle.rules.specs.Turns.{State}
 use Rattle.rules.specs.Joint.{Entry, firstList, joint}
-use Rattle.sound.specs.Facts.{Sound}
-use Rattle.lists.specs.Every.{Every, every-more}
-use Rattle.simulation.specs.Simulation.{joint-proper}
-use Rattle.trace.specs.Longest.{passes}
-use Rattle.weights.specs.Room.{met-minutes, list-fits}
-use Rattle.passes.specs.Joint.{joint-passes}
-use Rattle.passes.specs.Bounds.{ByteDelays, Bounded, bounded-train, joint-bounded}
-use Rattle.codes.specs.Codes.{stateOf}
+use Rattle.theory_sound.specs.Facts.{Sound}
+use Rattle.theory_lists.specs.Every.{Every, every-more}
+use Rattle.theory_simulation.specs.Simulation.{joint-proper}
+use Rattle.theory_trace.specs.Longest.{passes}
+use Rattle.theory_weights.specs.Room.{met-minutes, list-fits}
+use Rattle.theory_passes.specs.Joint.{joint-passes}
+use Rattle.theory_passes.specs.Bounds.{ByteDelays, Bounded, bounded-train, joint-bounded}
+use Rattle.theory_codes.specs.Codes.{stateOf}
 use Rattle.cut.specs.Packed.{packed}
 use Rattle.cut.specs.Covers.{sets-fit}
 use Rattle.rows.specs.Rows as rows
@@ -26,14 +26,14 @@ use Rattle.entries.specs.Coded.{bounded-fit}
 use Rattle.entries.specs.Agreeing.{good-every}
 use Rattle.entries.specs.Encoded as encoded
 use Rattle.entries.specs.Answer as joints
-use Rattle.images.specs.Rows.{rowOf, SmallEntry}
+use Rattle.out_images.specs.Rows.{rowOf, SmallEntry}
 use Rattle.rules.specs.Refusals.Result.{answer}
-use Rattle.sound.specs.Accepted.{accepted-sound}
-use Rattle.codes.specs.Tables.{tables}
-use Rattle.lookup.specs.declared.Sizes.{Sizes}
-use Rattle.plan.specs.Small.{Bytes}
+use Rattle.theory_sound.specs.Accepted.{accepted-sound}
+use Rattle.theory_codes.specs.Tables.{tables}
+use Rattle.file_lookup.specs.declared.Sizes.{Sizes}
+use Rattle.file_plan.specs.Small.{Bytes}
 use Rattle.weigh.specs.Weigh.{Small}
-use Rattle.codes.specs.Lookups.{table-room}
+use Rattle.theory_codes.specs.Lookups.{table-room}
 use Rattle.desk.specs.Single.{byte-delays}
 use Rattle.visiting.specs.Visit.{Ways}
 use Rattle.entries.specs.Onward.{tables-ways}

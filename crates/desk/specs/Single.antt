@@ -15,18 +15,18 @@ use Rattle.rules.specs.Refusals.Result.{refused, answer}
 use Rattle.rules.specs.Files.{Case, files}
 use Rattle.rules.specs.Single.{arrival}
 use Rattle.rules.specs.Calls.{choiceBroken, noSuchTrain, singleRun}
-use Rattle.lists.specs.Every.{Every}
-use Rattle.sound.specs.Facts.{Sound}
-use Rattle.sound.specs.Accepted.{accepted-sound}
-use Rattle.codes.specs.Tables.{tables}
-use Rattle.passes.specs.Bounds.{ByteDelays}
-use Rattle.lookup.specs.declared.Sizes.{Sizes}
-use Rattle.lookup.specs.declared.Files.{Files}
-use Rattle.lookup.specs.declared.Files.the-variants as told
-use Rattle.lookup.specs.Answers.{sizesOf, filesOf}
-use Rattle.lookup.specs.Laws.{sound-unsound}
-use Rattle.arguments.specs.Arguments.{forSingle}
-use Rattle.plan.specs.Small.{Bytes, files-small}
+use Rattle.theory_lists.specs.Every.{Every}
+use Rattle.theory_sound.specs.Facts.{Sound}
+use Rattle.theory_sound.specs.Accepted.{accepted-sound}
+use Rattle.theory_codes.specs.Tables.{tables}
+use Rattle.theory_passes.specs.Bounds.{ByteDelays}
+use Rattle.file_lookup.specs.declared.Sizes.{Sizes}
+use Rattle.file_lookup.specs.declared.Files.{Files}
+use Rattle.file_lookup.specs.declared.Files.the-variants as told
+use Rattle.file_lookup.specs.Answers.{sizesOf, filesOf}
+use Rattle.file_lookup.specs.Laws.{sound-unsound}
+use Rattle.file_arguments.specs.Arguments.{forSingle}
+use Rattle.file_plan.specs.Small.{Bytes, files-small}
 use Rattle.single.specs.Words.{Small}
 use Rattle.single.specs.Runs.{minuteNumber, Arrives}
 use Rattle.single.specs.Low.{words-small, tables-last}

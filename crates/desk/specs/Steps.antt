@@ -11,16 +11,16 @@ use Rattle.rules.specs.Joint.{Entry, joint}
 use Rattle.rules.specs.Calls.{Run, runTo, rowImage, weightsImage, filled}
 use Rattle.rules.specs.Listing.{listing}
 use Rattle.rules.specs.Figures as rules
-use Rattle.codes.specs.Tables as codes
-use Rattle.lookup.specs.declared.Sizes.{Sizes}
-use Rattle.lookup.specs.declared.Files.{Files}
-use Rattle.lookup.specs.declared.Files.the-variants.{Sound, Unsound}
-use Rattle.lookup.specs.Answers.{sizesOf}
-use Rattle.images.specs.Rows.{Held, Weighed}
-use Rattle.listing.specs.Text.{Weighs}
-use Rattle.figures.specs.Sums as figures
-use Rattle.figures.specs.declared.Figures.{Figures}
-use Rattle.figures.specs.Answers.{figuresAnswer, Holds}
+use Rattle.theory_codes.specs.Tables as codes
+use Rattle.file_lookup.specs.declared.Sizes.{Sizes}
+use Rattle.file_lookup.specs.declared.Files.{Files}
+use Rattle.file_lookup.specs.declared.Files.the-variants.{Sound, Unsound}
+use Rattle.file_lookup.specs.Answers.{sizesOf}
+use Rattle.out_images.specs.Rows.{Held, Weighed}
+use Rattle.out_listing.specs.Text.{Weighs}
+use Rattle.out_figures.specs.Sums as figures
+use Rattle.out_figures.specs.declared.Figures.{Figures}
+use Rattle.out_figures.specs.Answers.{figuresAnswer, Holds}
 use Rattle.desk.specs.declared.Answer.{Answer}
 use Rattle.desk.specs.Answers.{refusedWith, answered, answerOf}
 

@@ -12,16 +12,16 @@ use borrow.Author.Tests.{ltb-true}
 use Rattle.rules.specs.Lists.{sum, span, below}
 use Rattle.rules.specs.Files.{Pair, Case}
 use Rattle.rules.specs.Single.{pairAt}
-use Rattle.sound.specs.Facts.{Sound}
-use Rattle.lists.specs.Every.{Every, every-anywhere}
-use Rattle.lists.specs.Sums.{sum-zero}
-use Rattle.lists.specs.Below.{sum-span-suc}
-use Rattle.codes.specs.Tables.{order, tables}
-use Rattle.passes.specs.Bounds.{ByteDelays}
-use Rattle.passes.specs.Order.{order-known}
+use Rattle.theory_sound.specs.Facts.{Sound}
+use Rattle.theory_lists.specs.Every.{Every, every-anywhere}
+use Rattle.theory_lists.specs.Sums.{sum-zero}
+use Rattle.theory_lists.specs.Below.{sum-span-suc}
+use Rattle.theory_codes.specs.Tables.{order, tables}
+use Rattle.theory_passes.specs.Bounds.{ByteDelays}
+use Rattle.theory_passes.specs.Order.{order-known}
 use Rattle.single.specs.Low.{Low, tables-low}
 use Rattle.weigh.specs.Weigh.{setWeight, Small}
-use Rattle.codes.specs.Lookups.{wordFor, words-order, words-delays, table-trains, table-safety, table-weight}
+use Rattle.theory_codes.specs.Lookups.{wordFor, words-order, words-delays, table-trains, table-safety, table-weight}
 
 -- ---- weights of a set
 

@@ -1,10 +1,10 @@
 // The planning desk's calls: C functions on numbers and byte slices. Nothing is kept between calls.
 // A call is lent memory for what it fills: rows, weights and text; docs/FORMATS.md has their images.
-use fields::refusals;
-use figures::Figures;
-use figures::Punctuality;
-use lookup::Files;
-use lookup::Sizes;
+use file_fields::refusals;
+use file_lookup::Files;
+use file_lookup::Sizes;
+use out_figures::Figures;
+use out_figures::Punctuality;
 ghost use mathlib.Core.Path.{_≡_};
 ghost use mathlib.Core.List.{[]};
 ghost use Prim.Native.Nat.{_+_, _*_, _≤_, _<_};
@@ -15,7 +15,7 @@ ghost use Rattle.rules.specs.Calls.{filled, singleRun, runCall, listingCall, fi
 ghost use Rattle.weigh.specs.Weigh.{Small};
 ghost use Rattle.visiting.specs.Visit.{Ways};
 ghost use Rattle.entries.specs.Answer.{Answers};
-ghost use Rattle.figures.specs.Answers as told;
+ghost use Rattle.out_figures.specs.Answers as told;
 ghost use Rattle.desk.specs.Answers.{refusedWith, answered, answerOf, singleAnswer, trainFigures, figuresOf, lentTwo, lentThree, Gives, GivesText};
 ghost use Rattle.desk.specs.Steps.{Fits, Begins, Start, runOf, Tells, filesAnswer, Ran, Filled, Laid, Printable, Printed, Measurable, Measured};
 
@@ -85,8 +85,8 @@ fn clear(rows: &mut [u8], weights: &mut [u8])
     requires { ⌜ (16384 ≤ length (now rows)) × (40320 ≤ length (now weights)) ⌝ }
     ensures { λ _. ⌜ (now (rows .exit) ≡ filled 16384 [] (now (rows .entry))) × (now (weights .exit) ≡ filled 40320 [] (now (weights .entry))) ⌝ }
 {
-    images::clear(rows, 16384);
-    images::clear(weights, 40320);
+    out_images::clear(rows, 16384);
+    out_images::clear(weights, 40320);
 }
 
 // Fills the required rows with the first n rows of the list, and the required weights.
@@ -94,8 +94,8 @@ fn fill(list: &[u64], n: usize, trains: usize, ws: &[u64], rows: &mut [u8], weig
     requires { ⌜ (n ≤ 1024) × (2048 ≤ length (now list)) × (5040 ≤ length (now ws)) × (16384 ≤ length (now rows)) × (40320 ≤ length (now weights)) ⌝ }
     ensures { λ _. ⌜ Filled n trains (now (list .entry)) (now (ws .entry)) (now (rows .entry)) (now (weights .entry)) (now (rows .exit)) (now (weights .exit)) ⌝ }
 {
-    images::put_rows(list, n, trains as u64, rows);
-    images::put_weights(ws, weights);
+    out_images::put_rows(list, n, trains as u64, rows);
+    out_images::put_weights(ws, weights);
 }
 
 // The joint run on the tables, with room for its work: the number of words of its rows, or their length for refusal 12.
@@ -135,7 +135,7 @@ fn run_to<'a>(
     requires { ⌜ (length (now tables) ≡ 2288) × (length (now list) ≡ 2050) × (length (now ws) ≡ 5760) × (now ws ≡ replicate 5760 0) ⌝ }
     ensures { λ r. ⌜ ((C : rulesFiles.Case) → rulesFiles.files (now (case .entry)) (now (book .entry)) ≡ answer C → Ran C stop r (now (list .exit)) (now (ws .exit)) (now (tables .exit))) ⌝ }
 {
-    plan::fill(case, book, s, tables);
+    file_plan::fill(case, book, s, tables);
     let room = words::at(tables, 3) as usize;
     let end = room * 2 + 2;
     let w = run_on(tables, &mut list[..end], ws, stop as u64);
@@ -181,7 +181,7 @@ fn print(tables: &[u64], ws: &[u64], text: &mut [u8]) -> Answer
 {
     let trains = words::at(tables, 0) as usize;
     let last = words::at(tables, 1) as usize;
-    let length = listing::write(trains, last, ws, &mut text[..32768]);
+    let length = out_listing::write(trains, last, ws, &mut text[..32768]);
     answered(length as u64)
 }
 
@@ -193,8 +193,8 @@ fn measure(tables: &[u64], ws: &[u64], train: u64, limit: u16) -> Figures
     let plan = words::at(tables, 24 + train);
     let last = words::at(tables, 1);
     let trains = words::at(tables, 0) as usize;
-    let total = listing::whole_weight(trains);
-    figures::figures_of(ws, train, plan, last, total, limit)
+    let total = out_listing::whole_weight(trains);
+    out_figures::figures_of(ws, train, plan, last, total, limit)
 }
 
 fn number_of(p: Punctuality) -> u32
@@ -246,7 +246,7 @@ fn train_figures(a: Answer, f: Figures) -> TrainFigures
 fn refused_figures(a: Answer) -> TrainFigures
     ensures { λ r. ⌜ r ≡ trainFigures a told.noFigures ⌝ }
 {
-    train_figures(a, figures::refused())
+    train_figures(a, out_figures::refused())
 }
 
 // The minute in which the choice brings the train to its last station, 65,535 for none by the last minute.
@@ -259,12 +259,12 @@ pub extern "C" fn lampreysong_single<'a>(
 ) -> Answer
     ensures { λ r. ⌜ r ≡ singleAnswer (singleRun (now (case .entry)) (now (book .entry)) (now (choice .entry)) train) ⌝ }
 {
-    let f = arguments::for_single(case, book, choice, train as usize);
+    let f = file_arguments::for_single(case, book, choice, train as usize);
     let Files::Sound(s) = f else {
         return refused_files(f);
     };
     let mut tables = [0u64; 2288];
-    plan::fill(case, book, s, &mut tables);
+    file_plan::fill(case, book, s, &mut tables);
     let m = single::arrival(&tables, choice, train);
     answered(m)
 }
@@ -287,7 +287,7 @@ pub extern "C" fn lampreysong_run<'a>(
         return refused(refusals::TOO_SHORT, 0, 0);
     }
     let m = stop as usize;
-    let f = arguments::for_stop(case, book, m);
+    let f = file_arguments::for_stop(case, book, m);
     let mut tables = [0u64; 2288];
     let mut ws = [0u64; 5760];
     lay(case, book, f, m, &mut tables, &mut ws, rows, weights)
@@ -313,13 +313,13 @@ pub extern "C" fn lampreysong_listing<'a>(
     if text.len() < 32768 {
         return refused(refusals::TOO_SHORT, 0, 0);
     }
-    let f = lookup::read_files(case, book);
-    let last = fields::word(case, 3);
+    let f = file_lookup::read_files(case, book);
+    let last = file_fields::word(case, 3);
     let mut tables = [0u64; 2288];
     let mut ws = [0u64; 5760];
     let a = lay(case, book, f, last, &mut tables, &mut ws, rows, weights);
     if a.refusal != 0 {
-        images::clear(text, 32768);
+        out_images::clear(text, 32768);
         return a;
     }
     print(&tables, &ws, text)
@@ -343,8 +343,8 @@ pub extern "C" fn lampreysong_figures<'a>(
     if weights.len() < 40320 {
         return refused_figures(refused(refusals::TOO_SHORT, 0, 0));
     }
-    let f = arguments::for_train(case, book, train as usize);
-    let last = fields::word(case, 3);
+    let f = file_arguments::for_train(case, book, train as usize);
+    let last = file_fields::word(case, 3);
     let mut tables = [0u64; 2288];
     let mut ws = [0u64; 5760];
     let a = lay(case, book, f, last, &mut tables, &mut ws, rows, weights);

@@ -10,7 +10,7 @@ use lib.ListN.{length, take, getD, set, length-set}
 use lib.Seq.{getD-set-same, getD-set-other}
 use lib.Bits.{bitAnd, bitOr, and-zero-r}
 use lib.Dec.{eqb, ltb}
-use Rattle.lists.specs.Every.{every-more}
+use Rattle.theory_lists.specs.Every.{every-more}
 use Rattle.cut.specs.Cut.{fullOf}
 use Rattle.rows.specs.Rows.{Row, rowsOf}
 use Rattle.quiet.specs.Parts.{sub-or-left, sub-or-right}

@@ -13,25 +13,25 @@ use Rattle.rules.specs.Lists.{fold, below}
 use Rattle.rules.specs.Files.{Case}
 use Rattle.rules.specs.Turns.{Place, lastStation, same, State}
 use Rattle.rules.specs.Joint.{Entry}
-use Rattle.sound.specs.Facts.{Sound}
-use Rattle.lists.specs.Every.{Every}
-use Rattle.simulation.specs.Serving.{Proper}
-use Rattle.codes.specs.Codes.{placeOf}
-use Rattle.codes.specs.Tables.{order, tables}
-use Rattle.passes.specs.Passes.{passList, pass, cleared, elementPasses, minutePasses, minutesPasses}
-use Rattle.lists.specs.Folds.{fold-append}
-use Rattle.passes.specs.Order.{order-known, order-length}
-use Rattle.passes.specs.Joint.{Lawful, pass-lawful, pass-nobody, pass-met, pass-refused, cleared-lawful}
-use Rattle.passes.specs.Bounds.{AllBounded, pass-bounded, cleared-bounded}
-use Rattle.passes.specs.Arrivals.{arrivedWeight}
+use Rattle.theory_sound.specs.Facts.{Sound}
+use Rattle.theory_lists.specs.Every.{Every}
+use Rattle.theory_simulation.specs.Serving.{Proper}
+use Rattle.theory_codes.specs.Codes.{placeOf}
+use Rattle.theory_codes.specs.Tables.{order, tables}
+use Rattle.theory_passes.specs.Passes.{passList, pass, cleared, elementPasses, minutePasses, minutesPasses}
+use Rattle.theory_lists.specs.Folds.{fold-append}
+use Rattle.theory_passes.specs.Order.{order-known, order-length}
+use Rattle.theory_passes.specs.Joint.{Lawful, pass-lawful, pass-nobody, pass-met, pass-refused, cleared-lawful}
+use Rattle.theory_passes.specs.Bounds.{AllBounded, pass-bounded, cleared-bounded}
+use Rattle.theory_passes.specs.Arrivals.{arrivedWeight}
 use Rattle.rows.specs.Rows.{Row}
 use Rattle.visiting.specs.Visit.{Outcome, guard, someAsks, jobFor, afterPass, passOf}
 use Rattle.elements.specs.Elements.{elementOf, elementsOf}
 use Rattle.entries.specs.Run.{clearedOf, minuteOf, minutesOf}
 use Rattle.visiting.specs.Visit.Outcome.{refused, stands}
 use Rattle.visiting.specs.Visiting.{guard-in, guard-out}
-use Rattle.lists.specs.Below.{below-more}
-use Rattle.codes.specs.Lookups.{table-order, table-trains, table-room}
+use Rattle.theory_lists.specs.Below.{below-more}
+use Rattle.theory_codes.specs.Lookups.{table-order, table-trains, table-room}
 use Rattle.entries.specs.Encoded.{rowOf, Good, swept-rows}
 use Rattle.entries.specs.Rowed.{Asker, asker-of, asked-none, passed-is}
 use Rattle.entries.specs.Weighed.{Weighs, arrived-is, weighs-pass}

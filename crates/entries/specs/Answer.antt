@@ -10,13 +10,13 @@ use lib.ListN.{length, take, getD, replicate, length-map}
 use lib.Seq.{length-take-le}
 use Rattle.rules.specs.Files.{Case}
 use Rattle.rules.specs.Joint.{joint, weightAt}
-use Rattle.sound.specs.Facts.{Sound}
-use Rattle.weights.specs.Arrivals.{joint-seen, weightAt-most}
-use Rattle.weights.specs.Room.{total-most}
-use Rattle.codes.specs.Tables.{tables}
-use Rattle.passes.specs.Passes.{jointPasses}
-use Rattle.passes.specs.Joint.{joint-passes}
-use Rattle.passes.specs.Bounds.{ByteDelays}
+use Rattle.theory_sound.specs.Facts.{Sound}
+use Rattle.theory_weights.specs.Arrivals.{joint-seen, weightAt-most}
+use Rattle.theory_weights.specs.Room.{total-most}
+use Rattle.theory_codes.specs.Tables.{tables}
+use Rattle.theory_passes.specs.Passes.{jointPasses}
+use Rattle.theory_passes.specs.Joint.{joint-passes}
+use Rattle.theory_passes.specs.Bounds.{ByteDelays}
 use Rattle.rows.specs.Rows.{rowsOf, words}
 use Rattle.rows.specs.Written.{words-rowsOf, words-length}
 use Rattle.opening.specs.First.{firstRows}

@@ -9,13 +9,13 @@ use Rattle.rules.specs.Lists.{tick}
 use Rattle.rules.specs.Files.{Case}
 use Rattle.rules.specs.Turns.{Mark, leg, way, ended}
 use Rattle.rules.specs.Turns.Place.{outside}
-use Rattle.sound.specs.Facts.{Sound}
-use Rattle.lists.specs.Every.{every-more}
-use Rattle.sound.specs.Trains.{way-known}
-use Rattle.codes.specs.Codes.{stateOf}
-use Rattle.codes.specs.Places.{Coded, known-coded}
-use Rattle.codes.specs.States.{Fit, state-blocks, state-minute}
-use Rattle.passes.specs.Bounds.{Bounded, bounded-minute, way-every}
+use Rattle.theory_sound.specs.Facts.{Sound}
+use Rattle.theory_lists.specs.Every.{every-more}
+use Rattle.theory_sound.specs.Trains.{way-known}
+use Rattle.theory_codes.specs.Codes.{stateOf}
+use Rattle.theory_codes.specs.Places.{Coded, known-coded}
+use Rattle.theory_codes.specs.States.{Fit, state-blocks, state-minute}
+use Rattle.theory_passes.specs.Bounds.{Bounded, bounded-minute, way-every}
 use Rattle.rows.specs.Rows.{endedOf}
 use Rattle.asking.specs.Ask.{dueOf}
 

@@ -13,15 +13,15 @@ use Rattle.rules.specs.Files.{Case, Pair}
 use Rattle.rules.specs.Turns.{Place, same, Mark, ahead, headIs, asks, ended, capacity}
 use Rattle.rules.specs.Turns.Place.{gone}
 use Rattle.rules.specs.Joint.{Cover, whole, Entry, piece, carry, meets}
-use Rattle.sound.specs.Facts.{Sound}
-use Rattle.lists.specs.Every.{Every, every-each, every-one, every-more}
-use Rattle.simulation.specs.Parts.{Part, Parts}
-use Rattle.simulation.specs.Serving.{Proper}
-use Rattle.codes.specs.Codes.{codeOf, placeOf, stateOf}
-use Rattle.codes.specs.Tables.{headCode, nextCode, tables}
-use Rattle.passes.specs.Passes.{asksFor, piecesAmong}
-use Rattle.passes.specs.Bounds.{Bounded, bounded-train}
-use Rattle.passes.specs.Elements.{ahead-known}
+use Rattle.theory_sound.specs.Facts.{Sound}
+use Rattle.theory_lists.specs.Every.{Every, every-each, every-one, every-more}
+use Rattle.theory_simulation.specs.Parts.{Part, Parts}
+use Rattle.theory_simulation.specs.Serving.{Proper}
+use Rattle.theory_codes.specs.Codes.{codeOf, placeOf, stateOf}
+use Rattle.theory_codes.specs.Tables.{headCode, nextCode, tables}
+use Rattle.theory_passes.specs.Passes.{asksFor, piecesAmong}
+use Rattle.theory_passes.specs.Bounds.{Bounded, bounded-train}
+use Rattle.theory_passes.specs.Elements.{ahead-known}
 use Rattle.cut.specs.Cut.{part, carried}
 use Rattle.cut.specs.Packed.{packed, packedPiece, Delays, Sets, Packable}
 use Rattle.cut.specs.Packed.Delays.{none, takes, skips}
@@ -29,10 +29,10 @@ use Rattle.cut.specs.Bridge.{carried-carry}
 use Rattle.rows.specs.Rows.{Row, row, meetsOf, metOf, sweptOf}
 use Rattle.asking.specs.declared.Job.{Job}
 use Rattle.asking.specs.Ask.{nextOf, asksOf, capOf, metFor}
-use Rattle.codes.specs.Places.{known-coded, coded-small, place-code, code-place, code-test, head-code, place-coded}
+use Rattle.theory_codes.specs.Places.{known-coded, coded-small, place-code, code-place, code-test, head-code, place-coded}
 use Rattle.entries.specs.Coded.{bounded-coded, bounded-fit, ended-state, due-state}
-use Rattle.codes.specs.States.{Fit, state-train, state-place, state-way}
-use Rattle.codes.specs.Lookups.{table-next, table-capacity}
+use Rattle.theory_codes.specs.States.{Fit, state-train, state-place, state-way}
+use Rattle.theory_codes.specs.Lookups.{table-next, table-capacity}
 
 -- an entry as a row
 unfoldable pub rowOf : Entry → Row

@@ -11,16 +11,16 @@ use lib.Dec.{leb}
 use Rattle.rules.specs.Lists.{sum}
 use Rattle.rules.specs.Files.{Pair, Case}
 use Rattle.rules.specs.Turns.{Place, same, stands, Leg, way, ahead, headIs, asks}
-use Rattle.sound.specs.Facts.{Sound}
-use Rattle.sound.specs.Trains.{Known, way-planned, planned-low}
-use Rattle.sound.specs.Ways.{same-self}
-use Rattle.codes.specs.Codes.{codeOf, placeOf}
-use Rattle.codes.specs.Tables.{headCode, nextCode, stayOn, tables}
-use Rattle.passes.specs.Elements.{ahead-known}
-use Rattle.passes.specs.Before.{placeBefore, asker-place}
+use Rattle.theory_sound.specs.Facts.{Sound}
+use Rattle.theory_sound.specs.Trains.{Known, way-planned, planned-low}
+use Rattle.theory_sound.specs.Ways.{same-self}
+use Rattle.theory_codes.specs.Codes.{codeOf, placeOf}
+use Rattle.theory_codes.specs.Tables.{headCode, nextCode, stayOn, tables}
+use Rattle.theory_passes.specs.Elements.{ahead-known}
+use Rattle.theory_passes.specs.Before.{placeBefore, asker-place}
 use Rattle.visiting.specs.Visit.{Ways}
-use Rattle.codes.specs.Places.{known-coded, place-code, code-place, next-small}
-use Rattle.codes.specs.Lookups.{table-next, table-stay, table-trains, table-delays}
+use Rattle.theory_codes.specs.Places.{known-coded, place-code, code-place, next-small}
+use Rattle.theory_codes.specs.Lookups.{table-next, table-stay, table-trains, table-delays}
 
 module _ (C : Case) (sound : Sound C) where
   -- the next element of a place, where there is one

@@ -12,15 +12,15 @@ use Rattle.rules.specs.Files.{Case}
 use Rattle.rules.specs.Turns.{Place, same, Mark, stands, block, dueAgain, Served, served}
 use Rattle.rules.specs.Turns.Place.{outside, station, track, gone}
 use Rattle.rules.specs.Joint.{Cover, Entry, entry, Piece, meets}
-use Rattle.sound.specs.Facts.{Sound}
-use Rattle.lists.specs.Each.{each-append, map-append}
-use Rattle.lists.specs.Every.{Every}
-use Rattle.sound.specs.Ways.{same-self}
-use Rattle.codes.specs.Codes.{codeOf, placeOf, stateOf}
-use Rattle.codes.specs.Tables.{stayOn, tables}
-use Rattle.passes.specs.Passes.{asksFor, piecesAmong, passed, passList}
-use Rattle.passes.specs.Before.{placeBefore, newMarks, arrivalMarks, serveWith, passed-with, asksFor-place}
-use Rattle.passes.specs.Bounds.{Bounded}
+use Rattle.theory_sound.specs.Facts.{Sound}
+use Rattle.theory_lists.specs.Each.{each-append, map-append}
+use Rattle.theory_lists.specs.Every.{Every}
+use Rattle.theory_sound.specs.Ways.{same-self}
+use Rattle.theory_codes.specs.Codes.{codeOf, placeOf, stateOf}
+use Rattle.theory_codes.specs.Tables.{stayOn, tables}
+use Rattle.theory_passes.specs.Passes.{asksFor, piecesAmong, passed, passList}
+use Rattle.theory_passes.specs.Before.{placeBefore, newMarks, arrivalMarks, serveWith, passed-with, asksFor-place}
+use Rattle.theory_passes.specs.Bounds.{Bounded}
 use Rattle.cut.specs.Cut.{carried, heldOf, enteringOf}
 use Rattle.cut.specs.Packed.{packed, packedPiece}
 use Rattle.cut.specs.Bridge.{heldCovers, enteringCovers, held-packed, entering-packed}
@@ -29,10 +29,10 @@ use Rattle.asking.specs.declared.Job.{Job}
 use Rattle.asking.specs.Ask.{asksOf, askerOf, jobOf, capOf, metFor, askingOf}
 use Rattle.serving.specs.Pass.{holdRow, enterRow, coversOf, passedOf}
 use Rattle.visiting.specs.Visit.{someAsks, jobFor}
-use Rattle.codes.specs.Places.{Coded, code-place}
-use Rattle.codes.specs.States.{state-place}
+use Rattle.theory_codes.specs.Places.{Coded, code-place}
+use Rattle.theory_codes.specs.States.{state-place}
 use Rattle.entries.specs.Coded.{bounded-coded, bounded-fit}
-use Rattle.codes.specs.Lookups.{table-stay, table-safety}
+use Rattle.theory_codes.specs.Lookups.{table-stay, table-safety}
 use Rattle.entries.specs.Encoded.{rowOf, Good, asks-row, pieces-row}
 
 -- ---- rows of pieces

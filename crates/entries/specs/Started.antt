@@ -15,23 +15,23 @@ use Rattle.rules.specs.Turns.{State, state}
 use Rattle.rules.specs.Single.{waits}
 use Rattle.rules.specs.Joint.{whole, Entry, entry, firstList, checkList, weightAt}
 use Rattle.rules.specs.Calls.{setImage}
-use Rattle.sound.specs.Facts.{Sound}
-use Rattle.lists.specs.Each.{map-append}
-use Rattle.lists.specs.Every.{Every}
-use Rattle.lists.specs.Below.{every-below}
-use Rattle.simulation.specs.Start.{first-proper}
-use Rattle.codes.specs.Codes.{stateOf}
-use Rattle.codes.specs.Tables.{tables}
-use Rattle.passes.specs.Joint.{first-lawful}
-use Rattle.weights.specs.Room.{checkList-room}
-use Rattle.passes.specs.Bounds.{ByteDelays, firstList-bounded}
+use Rattle.theory_sound.specs.Facts.{Sound}
+use Rattle.theory_lists.specs.Each.{map-append}
+use Rattle.theory_lists.specs.Every.{Every}
+use Rattle.theory_lists.specs.Below.{every-below}
+use Rattle.theory_simulation.specs.Start.{first-proper}
+use Rattle.theory_codes.specs.Codes.{stateOf}
+use Rattle.theory_codes.specs.Tables.{tables}
+use Rattle.theory_passes.specs.Joint.{first-lawful}
+use Rattle.theory_weights.specs.Room.{checkList-room}
+use Rattle.theory_passes.specs.Bounds.{ByteDelays, firstList-bounded}
 use Rattle.cut.specs.Packed.{packedIn}
 use Rattle.cut.specs.Sets.{image-delays, whole-delays, single-delays}
 use Rattle.rows.specs.Rows.{Row, row}
 use Rattle.opening.specs.First.{firstByte, firstBytes, firstRow, firstRows}
 use Rattle.visiting.specs.Visit.{guard}
 use Rattle.visiting.specs.Visiting.{guard-in, guard-out}
-use Rattle.codes.specs.Lookups.{table-trains, table-delays, table-first, table-delay, table-room}
+use Rattle.theory_codes.specs.Lookups.{table-trains, table-delays, table-first, table-delay, table-room}
 use Rattle.entries.specs.Encoded.{rowOf}
 use Rattle.entries.specs.Weighed.{Weighs}
 use Rattle.entries.specs.Agreeing.{Agrees, Kind}

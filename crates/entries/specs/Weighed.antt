@@ -17,16 +17,16 @@ use Rattle.rules.specs.Turns.Place.{gone}
 use Rattle.rules.specs.Single.{pairAt}
 use Rattle.rules.specs.Joint.{Cover, Entry, Piece, piece, carry, meets, weight, weightAt, whole}
 use Rattle.rules.specs.Calls.{setImage}
-use Rattle.sound.specs.Facts.{Sound}
-use Rattle.sound.specs.Trains.{anywhere}
-use Rattle.lists.specs.Every.{Every, every-more}
-use Rattle.lists.specs.Sums.{sum-append, sum-every}
-use Rattle.simulation.specs.Parts.{Parts, carry-parts}
-use Rattle.weights.specs.Choices.{product, weight-product}
-use Rattle.codes.specs.Codes.{codeOf, placeOf}
-use Rattle.codes.specs.Tables.{tables}
-use Rattle.passes.specs.Passes.{asksFor, piecesAmong, pass}
-use Rattle.passes.specs.Arrivals.{enteringWeight, arrivedWeight, pass-weight}
+use Rattle.theory_sound.specs.Facts.{Sound}
+use Rattle.theory_sound.specs.Trains.{anywhere}
+use Rattle.theory_lists.specs.Every.{Every, every-more}
+use Rattle.theory_lists.specs.Sums.{sum-append, sum-every}
+use Rattle.theory_simulation.specs.Parts.{Parts, carry-parts}
+use Rattle.theory_weights.specs.Choices.{product, weight-product}
+use Rattle.theory_codes.specs.Codes.{codeOf, placeOf}
+use Rattle.theory_codes.specs.Tables.{tables}
+use Rattle.theory_passes.specs.Passes.{asksFor, piecesAmong, pass}
+use Rattle.theory_passes.specs.Arrivals.{enteringWeight, arrivedWeight, pass-weight}
 use Rattle.cut.specs.Packed.{packedIn, packed, Delays, Sets}
 use Rattle.cut.specs.Packed.Delays.{none, takes, skips}
 use Rattle.cut.specs.Sets.{image-delays, delays-small}
@@ -37,8 +37,8 @@ use Rattle.asking.specs.Ask.{jobOf, metFor}
 use Rattle.serving.specs.Pass.{coversOf, enterRow}
 use Rattle.visiting.specs.Visit.{arrivedOf, jobFor}
 use Rattle.visiting.specs.Arriving.{arrived-any}
-use Rattle.codes.specs.Places.{Coded, code-place, code-test, place-code, place-coded}
-use Rattle.codes.specs.Lookups.{table-weight, table-last, table-trains}
+use Rattle.theory_codes.specs.Places.{Coded, code-place, code-test, place-code, place-coded}
+use Rattle.theory_codes.specs.Lookups.{table-weight, table-last, table-trains}
 use Rattle.entries.specs.Encoded.{rowOf, Good, proper-packable, meets-parts}
 use Rattle.entries.specs.Rowed.{Asker, enter-is}
 

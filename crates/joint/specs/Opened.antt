@@ -10,10 +10,10 @@ use lib.ListN.{length, take, getD, replicate}
 use lib.Dec.{eqb, ltb}
 use lib.Pow.{pow-mono}
 use Rattle.rules.specs.Lists.{below}
-use Rattle.lists.specs.Every.{Every, every-each, every-map}
-use Rattle.lists.specs.Below.{every-below}
+use Rattle.theory_lists.specs.Every.{Every, every-each, every-map}
+use Rattle.theory_lists.specs.Below.{every-below}
 use Rattle.cut.specs.Cut.{fullOf}
-use Rattle.lists.specs.Writes.{Put, put-start, put-length, put-fits, zeros-at}
+use Rattle.theory_lists.specs.Writes.{Put, put-start, put-length, put-fits, zeros-at}
 use Rattle.rows.specs.Rows.{Row, rowsOf, rowsIn, words}
 use Rattle.rows.specs.Written.{words-length, rowsOf-words}
 use Rattle.weigh.specs.Weigh.{Small}

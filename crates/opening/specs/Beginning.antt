@@ -6,8 +6,8 @@ use native.Mathlib.Nat.{pow-succ', pow-le-pow-right, mod-eq-of-lt, one-mul}
 use native.Mathlib.Omega.{arith}
 use lib.ListN.{getD}
 use Rattle.rules.specs.Lists.{each, below}
-use Rattle.lists.specs.Each.{map-append}
-use Rattle.lists.specs.Below.{below-more, each-below-more}
+use Rattle.theory_lists.specs.Each.{map-append}
+use Rattle.theory_lists.specs.Below.{below-more, each-below-more}
 use Rattle.rows.specs.Rows.{Row, words}
 use Rattle.rows.specs.Written.{words-append}
 use Rattle.opening.specs.First.{firstByte, firstBytes, firstRow}

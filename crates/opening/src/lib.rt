@@ -4,7 +4,7 @@ ghost use mathlib.Core.List.{map};
 ghost use Prim.Native.Nat.{_+_, _≤_, _<_};
 ghost use lib.ListN.{length, getD};
 ghost use Rattle.rules.specs.Lists.{below};
-ghost use Rattle.lists.specs.Writes.{Put};
+ghost use Rattle.theory_lists.specs.Writes.{Put};
 ghost use Rattle.rows.specs.Rows.{words};
 ghost use Rattle.weigh.specs.Weigh.{Small};
 ghost use Rattle.opening.specs.First.{firstByte, firstBytes, firstRow, firstRows};

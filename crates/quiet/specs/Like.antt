@@ -6,8 +6,8 @@ use mathlib.Core.List.{List, [], _∷_, _++_}
 use Prim.Native.Nat.{ℕ, zero, suc}
 use lib.Bits.{bitAnd, and-comm}
 use Rattle.rules.specs.Lists.{one, each}
-use Rattle.lists.specs.Each.{each-append}
-use Rattle.lists.specs.Every.{Every}
+use Rattle.theory_lists.specs.Each.{each-append}
+use Rattle.theory_lists.specs.Every.{Every}
 use Rattle.cut.specs.Cut.{fullOf}
 use Rattle.rows.specs.Rows.{Row, meetsOf, metOf}
 use Rattle.quiet.specs.Parts.{Sub, apart-part}

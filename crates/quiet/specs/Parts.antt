@@ -11,7 +11,7 @@ use lib.Bits.{bitAnd, bitOr, and-step, or-step, or-comm, and-self, and-comm, and
 use lib.Dec.{eqb}
 use lib.Pow.{high, low}
 use Rattle.rules.specs.Lists.{one}
-use Rattle.lists.specs.Every.{Every, every-append, every-map, every-one}
+use Rattle.theory_lists.specs.Every.{Every, every-append, every-map, every-one}
 use Rattle.cut.specs.Cut.{fullOf, outs}
 use Rattle.cut.specs.Outside.{outsideBy, outs-whole}
 

@@ -11,7 +11,7 @@ use lib.ListN.{length}
 use lib.Bits.{bitAnd, and-self}
 use lib.Dec.{leb, ltb}
 use Rattle.rules.specs.Lists.{each}
-use Rattle.lists.specs.Every.{Every, every-append, every-each, every-more}
+use Rattle.theory_lists.specs.Every.{Every, every-append, every-each, every-more}
 use Rattle.cut.specs.Cut.{Part, part, fullOf, outs, turn, carried}
 use Rattle.cut.specs.Outside.{outs-nothing}
 use Rattle.quiet.specs.Parts.{Sub, sub-trans, sub-left, sub-right, apart-part, Outside, outside-pieces}

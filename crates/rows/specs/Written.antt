@@ -10,9 +10,9 @@ use borrow.Author.Tests.{eq-eqb, ne-eqb}
 use lib.ListN.{length, take, drop, getD, set, take-append-drop}
 use lib.Seq.{slice, take-suc, take-take, take-set-le, take-suc-set, length-slice, length-take-le, drop-append-le}
 use Rattle.rules.specs.Lists.{one, each}
-use Rattle.lists.specs.Each.{each-append, map-append}
-use Rattle.lists.specs.Every.{Every, every-left, every-right}
-use Rattle.lists.specs.Writes.{Put, put-full, put-length, put-join}
+use Rattle.theory_lists.specs.Each.{each-append, map-append}
+use Rattle.theory_lists.specs.Every.{Every, every-left, every-right}
+use Rattle.theory_lists.specs.Writes.{Put, put-full, put-length, put-join}
 use Rattle.rows.specs.Rows.{Row, row, rowsOf, words, rowsIn, rowAt, meetsOf, metOf, heldRows, enteredRows}
 
 -- ---- rows and words

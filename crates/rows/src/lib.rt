@@ -7,7 +7,7 @@ ghost use lib.ListN.{length, take, set};
 ghost use lib.Dec.{eqb};
 ghost use lib.Seq.{slice};
 ghost use Rattle.rules.specs.Lists.{one};
-ghost use Rattle.lists.specs.Writes.{Put};
+ghost use Rattle.theory_lists.specs.Writes.{Put};
 ghost use Rattle.rows.specs.Rows.{words, rowsIn, Begins, endedOf, metOf, heldRows, enteredRows};
 
 // One word more, where there is room.

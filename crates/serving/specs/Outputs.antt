@@ -12,7 +12,7 @@ use Rattle.cut.specs.declared.Pieces.{Pieces}
 use Rattle.cut.specs.Cut.{Part, heldOf, enteringOf, Room, fitting, Wrote}
 use Rattle.cut.specs.Written.{length-apart, wrote-entering-length, fitting-count, fitting-all}
 use Rattle.quiet.specs.Parts.{Sub, sub-or-left, sub-or-right}
-use Rattle.lists.specs.Writes.{sets-append, Put, put-none, put-join, put-length, put-fits, put-start}
+use Rattle.theory_lists.specs.Writes.{sets-append, Put, put-none, put-join, put-length, put-fits, put-start}
 use Rattle.rows.specs.Rows.{row, words, heldRows}
 use Rattle.rows.specs.Written.{words-length}
 use Rattle.serving.specs.Pass.{Came, Two, Stays, Went}

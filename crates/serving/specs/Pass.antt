@@ -7,7 +7,7 @@ use lib.ListN.{length, take, getD}
 use lib.Seq.{sets}
 use Rattle.rules.specs.Lists.{each}
 use Rattle.cut.specs.Cut.{carried, heldOf, enteringOf}
-use Rattle.lists.specs.Writes.{Put}
+use Rattle.theory_lists.specs.Writes.{Put}
 use Rattle.rows.specs.Rows.{Row, words, heldRows, enteredRows}
 use Rattle.quiet.specs.Parts.{Sub}
 use Rattle.asking.specs.declared.Job.{Job}

@@ -8,11 +8,11 @@ use native.Mathlib.Omega.{arith}
 use lib.ListN.{length, take, getD, length-append}
 use lib.Seq.{slice, length-slice}
 use Rattle.rules.specs.Lists.{one, each}
-use Rattle.lists.specs.Each.{each-append}
-use Rattle.lists.specs.Every.{each-every, Every, every-append, every-more}
+use Rattle.theory_lists.specs.Each.{each-append}
+use Rattle.theory_lists.specs.Every.{each-every, Every, every-append, every-more}
 use Rattle.cut.specs.Cut.{carried, heldOf, enteringOf}
 use Rattle.quiet.specs.Parts.{Sub, sub-trans}
-use Rattle.lists.specs.Writes.{Put, put-join, put-length, put-start, put-taken}
+use Rattle.theory_lists.specs.Writes.{Put, put-join, put-length, put-start, put-taken}
 use Rattle.rows.specs.Rows.{Row, row, words, rowsOf, rowsIn, rowAt, Begins, heldRows, enteredRows}
 use Rattle.rows.specs.Written.{words-append, words-length, rowsIn-words, words-rowsOf, rowsIn-length, rowsIn-more, each-more, rows-split}
 use Rattle.asking.specs.declared.Job.{Job}

@@ -4,7 +4,7 @@ ghost use mathlib.Core.Bool.{false};
 ghost use Prim.Native.Nat.{_*_, _/_, _≤_, _<_};
 ghost use lib.ListN.{length, take};
 ghost use Rattle.rules.specs.Lists.{each};
-ghost use Rattle.lists.specs.Every.{Every};
+ghost use Rattle.theory_lists.specs.Every.{Every};
 ghost use Rattle.cut.specs.Cut.{carried, heldOf, enteringOf};
 ghost use Rattle.rows.specs.Rows.{row, words, rowsIn, heldRows};
 ghost use Rattle.quiet.specs.Parts.{Sub};

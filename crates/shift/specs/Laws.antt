@@ -12,9 +12,9 @@ use Rattle.rules.specs.Files.{Case, files}
 use Rattle.rules.specs.Joint.{joint}
 use Rattle.rules.specs.Listing.{decimal, line, refusedWord, refusedLine}
 use Rattle.rules.specs.Calls.{Run, runTo, wholeRun, textOf, filled, Lent, lent, listingCall}
-use Rattle.sound.specs.Places.{files-told}
-use Rattle.lists.specs.Writes.{Put}
-use Rattle.listing.specs.Suffices.{decimal-most}
+use Rattle.theory_sound.specs.Places.{files-told}
+use Rattle.theory_lists.specs.Writes.{Put}
+use Rattle.out_listing.specs.Suffices.{decimal-most}
 use Rattle.desk.specs.declared.Answer.{Answer}
 use Rattle.desk.specs.Answers.{answerOf, lentThree, GivesText}
 use Rattle.desk.specs.Ends.{long, call-long}

@@ -16,7 +16,7 @@ fn text_for<'a>(case: &'a [u8], book: &'a [u8], text: &mut [u8]) -> usize
     let mut weights = [0u8; 40320];
     let a = desk::lampreysong_listing(case, book, &mut rows, &mut weights, text);
     if a.refusal != 0 {
-        return listing::refused_line(a.refusal as u64, a.file as u64, a.place as u64, text);
+        return out_listing::refused_line(a.refusal as u64, a.file as u64, a.place as u64, text);
     }
     a.value as usize
 }

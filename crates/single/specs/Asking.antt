@@ -13,21 +13,21 @@ use Rattle.rules.specs.Lists.{tick, sum, count, below}
 use Rattle.rules.specs.Files.{Case}
 use Rattle.rules.specs.Turns.{same, Mark, absent, trainAt, lastStation, capacity, ahead, headIs, asks, State}
 use Rattle.rules.specs.Turns.Place.{station, gone}
-use Rattle.sound.specs.Facts.{SoundTrain, Sound}
-use Rattle.lists.specs.Tests.{eqb-turn}
-use Rattle.lists.specs.Every.{every-at}
-use Rattle.sound.specs.Steps.{every-last}
-use Rattle.sound.specs.Trains.{Known}
-use Rattle.lists.specs.Sums.{sum-plus, sum-zero}
-use Rattle.lists.specs.Below.{sum-below-in}
-use Rattle.sound.specs.Ways.{same-self}
-use Rattle.codes.specs.Codes.{codeOf, nowhere, placeOf}
-use Rattle.codes.specs.Tables.{nextCode, tables}
-use Rattle.codes.specs.Places.{place-code, same-element, head-code, known-coded, known-few}
-use Rattle.passes.specs.Elements.{ahead-known}
-use Rattle.passes.specs.Passes.{admits}
+use Rattle.theory_sound.specs.Facts.{SoundTrain, Sound}
+use Rattle.theory_lists.specs.Tests.{eqb-turn}
+use Rattle.theory_lists.specs.Every.{every-at}
+use Rattle.theory_sound.specs.Steps.{every-last}
+use Rattle.theory_sound.specs.Trains.{Known}
+use Rattle.theory_lists.specs.Sums.{sum-plus, sum-zero}
+use Rattle.theory_lists.specs.Below.{sum-below-in}
+use Rattle.theory_sound.specs.Ways.{same-self}
+use Rattle.theory_codes.specs.Codes.{codeOf, nowhere, placeOf}
+use Rattle.theory_codes.specs.Tables.{nextCode, tables}
+use Rattle.theory_codes.specs.Places.{place-code, same-element, head-code, known-coded, known-few}
+use Rattle.theory_passes.specs.Elements.{ahead-known}
+use Rattle.theory_passes.specs.Passes.{admits}
 use Rattle.single.specs.Words.{wanted, holding, crowd, lets}
-use Rattle.codes.specs.Lookups.{table-trains, table-last, table-capacity}
+use Rattle.theory_codes.specs.Lookups.{table-trains, table-last, table-capacity}
 use Rattle.single.specs.Looks.{look-next}
 use Rattle.single.specs.Sums.{sum-below}
 use Rattle.single.specs.Shows.{standsIn, endIn, blockTerm, Shows}

@@ -5,8 +5,8 @@ use native.Mathlib.Omega.{arith}
 use lib.ListN.{getD}
 use Rattle.rules.specs.Files.{Case}
 use Rattle.rules.specs.Single.{pairAt}
-use Rattle.codes.specs.Tables.{nextCode, stayOn, tables}
-use Rattle.codes.specs.Lookups.{table-delay, table-next, table-stay}
+use Rattle.theory_codes.specs.Tables.{nextCode, stayOn, tables}
+use Rattle.theory_codes.specs.Lookups.{table-delay, table-next, table-stay}
 
 module _ (C : Case) (k : ℕ) (few : k < 8) where
   -- the words of train k, m to a train, from the place a on

@@ -14,18 +14,18 @@ use Rattle.rules.specs.Turns.{Place, Leg, trainAt, way, ahead, headIs, lastStat
 use Rattle.rules.specs.Turns.Place.{outside, station, track, gone}
 use Rattle.rules.specs.Single.{pairAt, firstArrival}
 use Rattle.rules.specs.Figures.{plan}
-use Rattle.lists.specs.Every.{Every, every-all, every-append, every-anywhere, every-image, every-more}
-use Rattle.sound.specs.Facts.{SoundPairs, Sound}
-use Rattle.sound.specs.Trains.{way-planned, plan-most, planned-low}
-use Rattle.sound.specs.Ways.{same-self}
-use Rattle.codes.specs.Codes.{codeOf, placeOf}
-use Rattle.codes.specs.Tables.{order, headCode, nextCode, stayOn, perTrain, perPair, headTable, trainTables, pairTables, tables}
-use Rattle.passes.specs.Order.{order-known}
-use Rattle.passes.specs.Elements.{ahead-known}
-use Rattle.passes.specs.Bounds.{ByteDelays, arrival-low, delay-low}
+use Rattle.theory_lists.specs.Every.{Every, every-all, every-append, every-anywhere, every-image, every-more}
+use Rattle.theory_sound.specs.Facts.{SoundPairs, Sound}
+use Rattle.theory_sound.specs.Trains.{way-planned, plan-most, planned-low}
+use Rattle.theory_sound.specs.Ways.{same-self}
+use Rattle.theory_codes.specs.Codes.{codeOf, placeOf}
+use Rattle.theory_codes.specs.Tables.{order, headCode, nextCode, stayOn, perTrain, perPair, headTable, trainTables, pairTables, tables}
+use Rattle.theory_passes.specs.Order.{order-known}
+use Rattle.theory_passes.specs.Elements.{ahead-known}
+use Rattle.theory_passes.specs.Bounds.{ByteDelays, arrival-low, delay-low}
 use Rattle.single.specs.Words.{Small}
-use Rattle.codes.specs.Places.{known-few}
-use Rattle.codes.specs.Lookups.{table-minute}
+use Rattle.theory_codes.specs.Places.{known-few}
+use Rattle.theory_codes.specs.Lookups.{table-minute}
 use Rattle.single.specs.Asking.{last-known}
 
 abbrev pub Low : ℕ → Type 0

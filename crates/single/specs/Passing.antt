@@ -14,13 +14,13 @@ use Rattle.rules.specs.Lists.{one, each, tick, sum, keep, below}
 use Rattle.rules.specs.Files.{Case}
 use Rattle.rules.specs.Turns.{Place, same, Mark, stands, lastStation, asks, entered, arriving, State}
 use Rattle.rules.specs.Single.{minuteOf}
-use Rattle.lists.specs.Tests.{and-true-first}
-use Rattle.lists.specs.Sums.{sum-keep, sum-append, sum-each, sum-plus, sum-zero, sum-ones}
-use Rattle.lists.specs.Every.{Every, every-each, every-one}
-use Rattle.lists.specs.Below.{sum-below-in}
-use Rattle.lists.specs.Kept.{keep-passes}
-use Rattle.passes.specs.Passes.{asksFor, admits, goes, passTrain}
-use Rattle.passes.specs.Walk.{asksFor-train}
+use Rattle.theory_lists.specs.Tests.{and-true-first}
+use Rattle.theory_lists.specs.Sums.{sum-keep, sum-append, sum-each, sum-plus, sum-zero, sum-ones}
+use Rattle.theory_lists.specs.Every.{Every, every-each, every-one}
+use Rattle.theory_lists.specs.Below.{sum-below-in}
+use Rattle.theory_lists.specs.Kept.{keep-passes}
+use Rattle.theory_passes.specs.Passes.{asksFor, admits, goes, passTrain}
+use Rattle.theory_passes.specs.Walk.{asksFor-train}
 use Rattle.single.specs.Sums.{sum-below, sum-change, orElse, minuteOf-append, minuteOf-same}
 use Rattle.single.specs.Shows.{standsIn, blockIn, endIn, blockTerm, standsSum, blocksSum, Shows}
 

@@ -15,19 +15,19 @@ use Rattle.rules.specs.Files.{Case}
 use Rattle.rules.specs.Turns.{Place, Mark, arriving, State, state}
 use Rattle.rules.specs.Single.{firstMarks, minuteOf, arrival}
 use Rattle.rules.specs.Calls.{choiceBroken}
-use Rattle.sound.specs.Facts.{Sound}
-use Rattle.lists.specs.Below.{length-span, every-below}
-use Rattle.lists.specs.Every.{Every}
-use Rattle.simulation.specs.Start.{first-orderly}
-use Rattle.codes.specs.Codes.{placeOf}
-use Rattle.codes.specs.Tables.{order, tables}
-use Rattle.passes.specs.Order.{order-known, order-length}
-use Rattle.lists.specs.Folds.{fold-map, fold-keeps}
-use Rattle.passes.specs.Passes.{goes, passTrain, cleared, elementPasses, minutePasses, minutesPasses, singlePasses}
-use Rattle.passes.specs.Single.{InOrder, passTrain-orderly, cleared-orderly, arrival-passes}
+use Rattle.theory_sound.specs.Facts.{Sound}
+use Rattle.theory_lists.specs.Below.{length-span, every-below}
+use Rattle.theory_lists.specs.Every.{Every}
+use Rattle.theory_simulation.specs.Start.{first-orderly}
+use Rattle.theory_codes.specs.Codes.{placeOf}
+use Rattle.theory_codes.specs.Tables.{order, tables}
+use Rattle.theory_passes.specs.Order.{order-known, order-length}
+use Rattle.theory_lists.specs.Folds.{fold-map, fold-keeps}
+use Rattle.theory_passes.specs.Passes.{goes, passTrain, cleared, elementPasses, minutePasses, minutesPasses, singlePasses}
+use Rattle.theory_passes.specs.Single.{InOrder, passTrain-orderly, cleared-orderly, arrival-passes}
 use Rattle.single.specs.Words.{runSize, orderIn, servedIn, elementIn, minuteIn, startIn, soughtIn, answerIn}
-use Rattle.lists.specs.Below.{getD-below}
-use Rattle.codes.specs.Lookups.{table-trains, table-minute, table-order}
+use Rattle.theory_lists.specs.Below.{getD-below}
+use Rattle.theory_codes.specs.Lookups.{table-trains, table-minute, table-order}
 use Rattle.single.specs.Sums.{orElse, minuteOf-append}
 use Rattle.single.specs.Shows as shows
 use Rattle.single.specs.Shows.{Shows, shows-cleared}

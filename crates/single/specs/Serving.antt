@@ -15,16 +15,16 @@ use Rattle.rules.specs.Files.{Case}
 use Rattle.rules.specs.Turns.{Place, same, Mark, stands, block, lastStation, asks, dueAgain, leaving, entered, State}
 use Rattle.rules.specs.Turns.Place.{outside}
 use Rattle.rules.specs.Single.{minuteOf}
-use Rattle.sound.specs.Facts.{Sound}
-use Rattle.sound.specs.Ways.{same-self}
-use Rattle.simulation.specs.Orderly.{isAt, at-once}
-use Rattle.codes.specs.Codes.{placeOf}
-use Rattle.codes.specs.Tables.{stayOn, tables}
-use Rattle.passes.specs.Passes.{admits, passTrain}
-use Rattle.passes.specs.Single.{InOrder}
+use Rattle.theory_sound.specs.Facts.{Sound}
+use Rattle.theory_sound.specs.Ways.{same-self}
+use Rattle.theory_simulation.specs.Orderly.{isAt, at-once}
+use Rattle.theory_codes.specs.Codes.{placeOf}
+use Rattle.theory_codes.specs.Tables.{stayOn, tables}
+use Rattle.theory_passes.specs.Passes.{admits, passTrain}
+use Rattle.theory_passes.specs.Single.{InOrder}
 use Rattle.single.specs.Words.{enteredIn, servedIn}
-use Rattle.codes.specs.Places.{same-codes}
-use Rattle.codes.specs.Lookups.{table-safety}
+use Rattle.theory_codes.specs.Places.{same-codes}
+use Rattle.theory_codes.specs.Lookups.{table-safety}
 use Rattle.single.specs.Looks.{look-stay}
 use Rattle.single.specs.Sums.{sum-below, sum-change, sum-term, orElse, orElse-none}
 use Rattle.single.specs.Shows.{standsIn, blockIn, endIn, blockTerm, standsSum, blocksSum, minuteIn, Shows}

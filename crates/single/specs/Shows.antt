@@ -14,9 +14,9 @@ use Rattle.rules.specs.Lists.{tick, sum, below}
 use Rattle.rules.specs.Files.{Case}
 use Rattle.rules.specs.Turns.{Mark, stands, block, ended, State}
 use Rattle.rules.specs.Single.{minuteOf}
-use Rattle.lists.specs.Sums.{sum-keep}
-use Rattle.codes.specs.Codes.{placeOf}
-use Rattle.passes.specs.Passes.{cleared}
+use Rattle.theory_lists.specs.Sums.{sum-keep}
+use Rattle.theory_codes.specs.Codes.{placeOf}
+use Rattle.theory_passes.specs.Passes.{cleared}
 use Rattle.single.specs.Words.{runSize}
 use Rattle.single.specs.Sums.{sum-below}
 

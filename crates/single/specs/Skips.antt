@@ -9,7 +9,7 @@ use lib.ListN.{getD}
 use lib.Dec.{leb, ltb, eqb}
 use borrow.Author.Tests.{leb-true, leb-false, ltb-true, ltb-false, eqb-true, eqb-false, le-leb, lt-leb, lt-ltb, le-ltb, eq-eqb}
 use Rattle.rules.specs.Lists.{tick, fold, span}
-use Rattle.codes.specs.Codes.{nowhere}
+use Rattle.theory_codes.specs.Codes.{nowhere}
 use Rattle.single.specs.Words.{trainsIn, orderIn, wanted, holding, crowd, lets, enteredIn, servedIn, elementIn, minuteIn, later, freedIn, readyIn, nextIn, soughtIn}
 use Rattle.single.specs.Turns.{least-most, least-each, least-from, fold-stays, sought-next, sought-end}
 use Rattle.single.specs.Sums.{sum-below}

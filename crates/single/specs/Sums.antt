@@ -12,9 +12,9 @@ use borrow.Author.Tests.{lt-ltb, ltb-true}
 use Rattle.rules.specs.Lists.{sum, below}
 use Rattle.rules.specs.Turns.{Mark}
 use Rattle.rules.specs.Single.{minuteOf}
-use Rattle.lists.specs.Every.{Every}
-use Rattle.lists.specs.Sums.{sum-append, sum-every}
-use Rattle.lists.specs.Below.{below-amid, every-below}
+use Rattle.theory_lists.specs.Every.{Every}
+use Rattle.theory_lists.specs.Sums.{sum-append, sum-every}
+use Rattle.theory_lists.specs.Below.{below-amid, every-below}
 
 -- ---- sums over numbers
 

@@ -16,15 +16,15 @@ use Rattle.rules.specs.Turns.{Mark, stands, trainAt, state}
 use Rattle.rules.specs.Turns.Place.{outside}
 use Rattle.rules.specs.Single.{pairAt, firstArrival, waits, firstMarks}
 use Rattle.rules.specs.Calls.{choiceBroken}
-use Rattle.sound.specs.Facts.{Sound}
-use Rattle.lists.specs.Sums.{sum-map, sum-zero}
-use Rattle.lists.specs.Writes.{zeros-at}
-use Rattle.simulation.specs.Start.{choice-at}
-use Rattle.simulation.specs.Choices.{unbroken-choice}
-use Rattle.codes.specs.Codes.{placeOf}
-use Rattle.codes.specs.Tables.{tables}
+use Rattle.theory_sound.specs.Facts.{Sound}
+use Rattle.theory_lists.specs.Sums.{sum-map, sum-zero}
+use Rattle.theory_lists.specs.Writes.{zeros-at}
+use Rattle.theory_simulation.specs.Start.{choice-at}
+use Rattle.theory_simulation.specs.Choices.{unbroken-choice}
+use Rattle.theory_codes.specs.Codes.{placeOf}
+use Rattle.theory_codes.specs.Tables.{tables}
 use Rattle.single.specs.Words.{runSize, waitsIn, startIn}
-use Rattle.codes.specs.Lookups.{table-first}
+use Rattle.theory_codes.specs.Lookups.{table-first}
 use Rattle.single.specs.Looks.{look-delay}
 use Rattle.single.specs.Sums.{sum-below}
 use Rattle.single.specs.Shows.{minuteIn, standsIn, blockIn, blockTerm, blocksSum, Shows}

@@ -6,7 +6,7 @@ use Prim.Native.Nat.{ℕ, zero, suc, _+_, _-_, _*_, _<_}
 use lib.ListN.{getD, set, replicate}
 use lib.Dec.{leb, ltb, eqb}
 use Rattle.rules.specs.Lists.{tick, sum, fold, below}
-use Rattle.codes.specs.Codes.{nowhere}
+use Rattle.theory_codes.specs.Codes.{nowhere}
 
 -- eight places, eight due minutes, eight arrivals, and 65 by eight ends of blocks
 abbrev pub runSize : ℕ

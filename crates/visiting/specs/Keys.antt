@@ -8,7 +8,7 @@ use native.Mathlib.Omega.{arith}
 use lib.Bits.{bitAnd}
 use lib.ListN.{length, getD}
 use lib.Seq.{slice}
-use Rattle.lists.specs.Every.{Every, every-append, every-left, every-more}
+use Rattle.theory_lists.specs.Every.{Every, every-append, every-left, every-more}
 use Rattle.cut.specs.Cut.{fullOf}
 use Rattle.rows.specs.Rows.{Row, rowsOf, rowsIn}
 use Rattle.rows.specs.Written.{rows-split, row-of}

@@ -3,7 +3,7 @@ use mathlib.Core.Bool.{Bool, true, false, cond}
 use mathlib.Core.List.{List, [], _∷_}
 use Prim.Native.Nat.{ℕ}
 use Rattle.rules.specs.Lists.{one, each}
-use Rattle.lists.specs.Every.{Every, every-append, every-each, every-map, every-all}
+use Rattle.theory_lists.specs.Every.{Every, every-append, every-each, every-map, every-all}
 use Rattle.cut.specs.Cut.{carried, heldOf}
 use Rattle.rows.specs.Rows.{Row, row, heldRows, enteredRows}
 use Rattle.asking.specs.declared.Job.{Job}

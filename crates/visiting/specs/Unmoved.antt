@@ -11,8 +11,8 @@ use lib.Seq.{slice, getD-set-other}
 use lib.Bits.{bitAnd, and-zero-r}
 use lib.Dec.{eqb, ltb}
 use borrow.Author.Tests.{eq-eqb, eqb-true, eqb-false, ltb-true}
-use Rattle.lists.specs.Each.{each-self, each-none}
-use Rattle.lists.specs.Every.{Every, every-more, any-none, each-every, every-all}
+use Rattle.theory_lists.specs.Each.{each-self, each-none}
+use Rattle.theory_lists.specs.Every.{Every, every-more, any-none, each-every, every-all}
 use Rattle.cut.specs.Cut.{fullOf}
 use Rattle.rows.specs.Rows.{Row, rowsOf, rowsIn, enteredRows}
 use Rattle.rows.specs.Written.{rowsIn-length}

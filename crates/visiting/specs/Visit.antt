@@ -6,7 +6,7 @@ use Prim.Native.Nat.{ℕ, _+_, _*_, _/_, _%_, _^_, _≤_, _<_}
 use lib.ListN.{length, take, getD, set}
 use lib.Dec.{ltb, eqb}
 use Rattle.rules.specs.Lists.{any}
-use Rattle.lists.specs.Every.{Every}
+use Rattle.theory_lists.specs.Every.{Every}
 use Rattle.rows.specs.Rows.{Row, rowsOf, endedOf}
 use Rattle.weigh.specs.Weigh.{broughtOf}
 use Rattle.asking.specs.declared.Job.{Job}

@@ -11,7 +11,7 @@ use lib.Seq.{slice}
 use lib.Dec.{eqb, ltb}
 use borrow.Author.Tests.{lt-ltb, le-ltb, eqb-true}
 use Rattle.rules.specs.Lists.{any}
-use Rattle.lists.specs.Every.{Every, every-more, any-append}
+use Rattle.theory_lists.specs.Every.{Every, every-more, any-append}
 use Rattle.rows.specs.Rows.{Row, rowsOf, rowsIn, rowAt, endedOf}
 use Rattle.rows.specs.Written.{rowsOf-words, rowsIn-more, rows-split}
 use Rattle.weigh.specs.Weigh.{Small}

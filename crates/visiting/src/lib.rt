@@ -3,7 +3,7 @@ ghost use mathlib.Core.Path.{_≡_};
 ghost use mathlib.Core.Bool.{true, false};
 ghost use Prim.Native.Nat.{_+_, _*_, _/_, _≤_, _<_};
 ghost use lib.ListN.{length, take, getD, set};
-ghost use Rattle.lists.specs.Every.{Every};
+ghost use Rattle.theory_lists.specs.Every.{Every};
 ghost use Rattle.rows.specs.Rows.{rowsOf, rowsIn};
 ghost use Rattle.weigh.specs.Weigh.{Small};
 ghost use Rattle.asking.specs.Ask.{asksOf, reachOf, stirsOf, Within};

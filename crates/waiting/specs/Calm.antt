@@ -10,8 +10,8 @@ use borrow.Author.Tests.{eqb-true, eqb-false}
 use lib.Bits.{bitAnd}
 use lib.Dec.{eqb, ltb}
 use Rattle.rules.specs.Lists.{one, each}
-use Rattle.lists.specs.Each.{each-append}
-use Rattle.lists.specs.Every.{Every, every-more}
+use Rattle.theory_lists.specs.Each.{each-append}
+use Rattle.theory_lists.specs.Every.{Every, every-more}
 use Rattle.cut.specs.Cut.{fullOf}
 use Rattle.rows.specs.Rows.{Row, meetsOf, metOf}
 use Rattle.asking.specs.Ask.{nextOf, capOf}

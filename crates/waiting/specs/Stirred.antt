@@ -9,8 +9,8 @@ use borrow.Author.Tests.{eq-eqb, ltb-true, ltb-false, lt-ltb, le-ltb}
 use lib.Bits.{bitAnd}
 use lib.Dec.{eqb, ltb}
 use Rattle.rules.specs.Lists.{one, each, keep}
-use Rattle.lists.specs.Each.{each-self}
-use Rattle.lists.specs.Every.{Every, each-every, every-append, every-each, every-more, every-map, every-one}
+use Rattle.theory_lists.specs.Each.{each-self}
+use Rattle.theory_lists.specs.Every.{Every, each-every, every-append, every-each, every-more, every-map, every-one}
 use Rattle.cut.specs.Cut.{Part, part, fullOf, carried, heldOf, enteringOf}
 use Rattle.rows.specs.Rows.{Row, row, metOf, endedOf, sweptOf, heldRows, enteredRows}
 use Rattle.asking.specs.declared.Job.{Job}

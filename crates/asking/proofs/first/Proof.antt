@@ -5,7 +5,7 @@ use mathlib.Core.Bool.{false}
 use mathlib.Core.List.{_∷_, []}
 use Prim.Native.Nat.{_-_, _≤_}
 use native.Mathlib.Omega.{arith}
-use Rattle.lists.specs.Every.{Every, every-append}
+use Rattle.theory_lists.specs.Every.{Every, every-append}
 use Rattle.rows.specs.Rows.{rowsOf, rowsIn, rowAt}
 use Rattle.rows.specs.Written.{rowsIn-more}
 use Rattle.asking.specs.Ask.{asksOf}

@@ -5,7 +5,7 @@ use mathlib.Core.List.{_∷_, []}
 use Prim.Native.Nat.{_-_, _*_, _≤_}
 use native.Mathlib.Omega.{arith}
 use lib.Seq.{slice, slice-empty}
-use Rattle.lists.specs.Every.{Every, every-append}
+use Rattle.theory_lists.specs.Every.{Every, every-append}
 use Rattle.rows.specs.Rows.{rowsOf, rowAt}
 use Rattle.rows.specs.Written.{slice-rows-more}
 use Rattle.asking.specs.Ask.{stirsOf}

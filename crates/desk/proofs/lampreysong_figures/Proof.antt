@@ -3,7 +3,7 @@ use mathlib.Core.Path.{sym, _∙_}
 use mathlib.Core.List.{[]}
 use native.Mathlib.Omega.{arith}
 use Rattle.desk.specs.Laws.{train-starts, train-runs}
-use Rattle.sound.specs.Runs.{train-answer}
+use Rattle.theory_sound.specs.Runs.{train-answer}
 use Rattle.desk.specs.Answered.{measurable, measured-figures}
 use Rattle.desk.specs.Ends.{short-rows, short-weights, long, laid-stood, figures-short, figures-refused, figures-answered}
 use borrow.Author.Needs.{needs}

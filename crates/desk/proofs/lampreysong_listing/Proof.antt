@@ -1,7 +1,7 @@
 -- `desk::lampreysong_listing` meets its contract: memory too short, refused, or the listing of the run over the whole window. Assumes nothing.
 use mathlib.Core.Path.{sym, _∙_}
 use Rattle.desk.specs.Laws.{whole-starts, whole-runs}
-use Rattle.sound.specs.Runs.{whole-answer}
+use Rattle.theory_sound.specs.Runs.{whole-answer}
 use Rattle.desk.specs.Answered.{printable, printed-listing}
 use Rattle.desk.specs.Ends.{short-rows, short-weights, short-text, long, laid-stood, listing-short, listing-refused, listing-printed}
 use borrow.Author.Needs.{needs}

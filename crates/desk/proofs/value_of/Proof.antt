@@ -1,7 +1,7 @@
 -- `desk::value_of` meets its contract: each arm is a case of punctuality. Assumes nothing.
 use mathlib.Core.Path.{ap, sym}
 use lib.Ieee.{ofBits}
-use Rattle.figures.specs.Answers.{valueOf}
+use Rattle.out_figures.specs.Answers.{valueOf}
 use borrow.Author.Needs.{needs}
 use Rattle.desk.proofs.value_of.Statement.{statement}
 use Rattle.desk.proofs.value_of.Tie as tie

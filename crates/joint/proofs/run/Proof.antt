@@ -3,7 +3,7 @@ use mathlib.Core.Path.{refl, ap, _∙_}
 use Prim.Native.Nat.{ℕ, _+_}
 use native.Mathlib.Omega.{arith}
 use lib.ListN.{length, getD, length-replicate}
-use Rattle.lists.specs.Writes.{put-length, put-fits}
+use Rattle.theory_lists.specs.Writes.{put-length, put-fits}
 use Rattle.opening.specs.First.{firstRows}
 use Rattle.visiting.specs.Visit.{guard}
 use Rattle.entries.specs.Run.{minutesOf}

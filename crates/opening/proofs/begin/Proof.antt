@@ -4,7 +4,7 @@ use mathlib.Core.Path.{_≡_}
 use Prim.Native.Nat.{_-_, _≤_}
 use native.Mathlib.Omega.{arith}
 use lib.ListN.{getD}
-use Rattle.lists.specs.Writes.{Put, put-none, put-join, put-fits, put-length}
+use Rattle.theory_lists.specs.Writes.{Put, put-none, put-join, put-fits, put-length}
 use Rattle.rows.specs.Rows.{words}
 use Rattle.opening.specs.First.{firstRows}
 use Rattle.opening.specs.Beginning.{firstTrains, trains-none, trains-more}

@@ -6,7 +6,7 @@ use Prim.Native.Nat.{_+_, _-_, _*_, _≤_}
 use native.Mathlib.Omega.{arith}
 use lib.ListN.{getD}
 use Rattle.rules.specs.Lists.{below}
-use Rattle.lists.specs.Writes.{Put, put-none, put-join, put-fits, put-length}
+use Rattle.theory_lists.specs.Writes.{Put, put-none, put-join, put-fits, put-length}
 use Rattle.rows.specs.Rows.{words}
 use Rattle.opening.specs.First.{firstRow}
 use Rattle.opening.specs.Beginning.{train-none, train-more}

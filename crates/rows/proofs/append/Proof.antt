@@ -1,5 +1,5 @@
 -- `rows::append` meets its contract: two words, one after the other. Assumes nothing.
-use Rattle.lists.specs.Writes.{put-join, put-fits}
+use Rattle.theory_lists.specs.Writes.{put-join, put-fits}
 use borrow.Author.Needs.{needs}
 use Rattle.rows.proofs.append.Statement.{statement}
 use Rattle.rows.proofs.append.Tie as tie

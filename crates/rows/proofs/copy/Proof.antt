@@ -5,7 +5,7 @@ use Prim.Native.Nat.{_+_, _-_, _≤_}
 use native.Mathlib.Omega.{arith}
 use lib.ListN.{length, length-set}
 use lib.Seq.{slice, slice-empty}
-use Rattle.lists.specs.Writes.{Put, put-none, put-one, put-join}
+use Rattle.theory_lists.specs.Writes.{Put, put-none, put-one, put-join}
 use Rattle.rows.specs.Written.{put-filled, slice-more}
 use borrow.Author.Needs.{needs}
 use Rattle.rows.proofs.copy.Statement.{statement}

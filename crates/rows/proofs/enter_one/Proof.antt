@@ -1,6 +1,6 @@
 -- `rows::enter_one` meets its contract: the standing row, and the block where there is one. Assumes nothing.
 use Rattle.rows.specs.Rows.{words, enteredRows}
-use Rattle.lists.specs.Writes.{put-join, put-fits}
+use Rattle.theory_lists.specs.Writes.{put-join, put-fits}
 use borrow.Author.Needs.{needs}
 use Rattle.rows.proofs.enter_one.Statement.{statement}
 use Rattle.rows.proofs.enter_one.Tie as tie

@@ -1,6 +1,6 @@
 -- `rows::put` meets its contract: past the end nothing is written. Assumes nothing.
 use native.Mathlib.Omega.{arith}
-use Rattle.lists.specs.Writes.{put-full}
+use Rattle.theory_lists.specs.Writes.{put-full}
 use borrow.Author.Needs.{needs}
 use Rattle.rows.proofs.put.Statement.{statement}
 use Rattle.rows.proofs.put.Tie as tie

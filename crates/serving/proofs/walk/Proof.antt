@@ -4,9 +4,9 @@ use Prim.Native.Nat.{_+_, _-_, _*_, _≤_, _<_}
 use native.Mathlib.Omega.{arith}
 use lib.ListN.{length}
 use Rattle.rules.specs.Lists.{each}
-use Rattle.lists.specs.Every.{Every}
+use Rattle.theory_lists.specs.Every.{Every}
 use Rattle.rows.specs.Rows.{words, rowsOf, rowsIn, rowAt}
-use Rattle.lists.specs.Writes.{put-length, put-fits}
+use Rattle.theory_lists.specs.Writes.{put-length, put-fits}
 use Rattle.asking.specs.Ask.{stirsOf}
 use Rattle.serving.specs.Pass.{holdBy, enterBy, Went, Two}
 use Rattle.serving.specs.Passing.{two-run, two-served, went-run, went-served, went-more}

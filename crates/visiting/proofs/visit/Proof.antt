@@ -5,7 +5,7 @@ use mathlib.Core.Bool.{false}
 use Prim.Native.Nat.{_+_, _-_, _*_, _/_, _%_, _≤_, _<_}
 use native.Mathlib.Omega.{arith}
 use lib.ListN.{length, take, getD}
-use Rattle.lists.specs.Every.{Every}
+use Rattle.theory_lists.specs.Every.{Every}
 use Rattle.rows.specs.Rows.{rowsOf, rowsIn, rowAt}
 use Rattle.rows.specs.Written.{row-of}
 use Rattle.asking.specs.Ask.{asksOf}

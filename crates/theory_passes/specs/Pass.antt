@@ -1,0 +1,145 @@
+-- A walk of the joint run is a pass: while one train asks for one element, only rows of that train change, so all its askers meet the same covers.
+-- By induction on the rows still to look at, with the covers that are met kept. Assumes nothing.
+use mathlib.Core.Path.{_≡_, refl, sym, ap, ap₂, _∙_, subst₂}
+use mathlib.Core.Bool.{Bool, true, false, not, _&&_, cond}
+use mathlib.Core.List.{List, [], _∷_, _++_, append-nil, append-assoc}
+use Prim.Native.Nat.{ℕ}
+use lib.Dec.{eqb}
+use borrow.Author.Tests.{eq-eqb}
+use Rattle.rules.specs.Lists.{one, each}
+use Rattle.rules.specs.Files.{Case}
+use Rattle.rules.specs.Turns.{Place, same, Served, served, State}
+use Rattle.rules.specs.Joint.{Cover, Entry, meets, pieces, serveEntry, jointRules}
+use Rattle.theory_lists.specs.Each.{each-append, each-none}
+use Rattle.theory_lists.specs.Every.{each-every, Every, every-more}
+use Rattle.theory_lists.specs.Items.{servedList}
+use Rattle.theory_passes.specs.Passes.{asksFor, piecesAmong, serveAmong, passed, passList, passArrived}
+use Rattle.theory_passes.specs.Walk.{asksFor-train, mine, metWith, walkOne, walk}
+use Rattle.theory_passes.specs.Marks.{joint-own}
+
+-- ---- what comes of an asker
+
+-- an asker of train k meets what is not train k's
+pub serveEntry-among : (C : Case) (t : ℕ) (e : Place) (l : List Entry) (r : Entry) → serveEntry C t e l r ≡ serveAmong C t e (meets e (r .mark .train) l) r
+unfolding serveEntry pieces serveAmong piecesAmong
+serveEntry-among C t e l r = refl
+
+meets-append : (e : Place) (k : ℕ) (s u : List Entry) → meets e k (s ++ u) ≡ meets e k s ++ meets e k u
+unfolding meets
+meets-append e k s u = each-append (λ r. one (not (eqb (r .mark .train) k) && same (r .mark .place) e) (r .cover)) s u
+
+-- a train does not meet its own entries
+meets-own : (e : Place) (k : ℕ) (l : List Entry) → Every (λ r. r .mark .train ≡ k) l → meets e k l ≡ []
+unfolding meets
+meets-own e k l h =
+    each-every (λ r. r .mark .train ≡ k) (λ r. one (not (eqb (r .mark .train) k) && same (r .mark .place) e) (r .cover)) (λ r. [])
+    (λ r q. ap (λ (z : Bool). one (not z && same (r .mark .place) e) (r .cover)) (eq-eqb (r .mark .train) k q)) l h
+    ∙ each-none l
+
+-- ---- a walk is a pass
+
+module _ (C : Case) (t : ℕ) (e : Place) (k : ℕ) (qs : List Cover) where
+  abbrev hold : Entry → List Entry
+  hold r = passed C t e k qs r .rows
+
+  abbrev add : Entry → List Entry
+  add r = passed C t e k qs r .added
+
+  abbrev arrive : Entry → List Entry
+  arrive r = passed C t e k qs r .arrived
+
+  passed-asker : (r : Entry) → asksFor C t e k (r .mark) ≡ true → passed C t e k qs r ≡ serveAmong C t e qs r
+  unfolding passed
+  passed-asker r h = ap (λ (z : Bool). cond z (serveAmong C t e qs r) (served (r ∷ []) [] [])) h
+
+  passed-other : (r : Entry) → asksFor C t e k (r .mark) ≡ false → passed C t e k qs r ≡ served (r ∷ []) [] []
+  unfolding passed
+  passed-other r h = ap (λ (z : Bool). cond z (serveAmong C t e qs r) (served (r ∷ []) [] [])) h
+
+  abbrev joins : List Cover → List Cover → List Cover → List Cover
+  joins a b c = a ++ (b ++ c)
+
+  meets-parts : (a b c : List Entry) → meets e k (a ++ (b ++ c)) ≡ joins (meets e k a) (meets e k b) (meets e k c)
+  meets-parts a b c = meets-append e k a (b ++ c) ∙ ap (λ (z : List Cover). meets e k a ++ z) (meets-append e k b c)
+
+  -- what is met after an asker of train k is served is what was met before
+  meets-same : (done : List Entry) (r : Entry) (rest new rows added : List Entry) → r .mark .train ≡ k
+      → Every (λ i. i .mark .train ≡ r .mark .train) rows → Every (λ i. i .mark .train ≡ r .mark .train) added
+      → meets e k ((done ++ rows) ++ (rest ++ (new ++ added))) ≡ meets e k (done ++ ((r ∷ rest) ++ new))
+  meets-same done r rest new rows added h f g =
+      meets-parts (done ++ rows) rest (new ++ added)
+      ∙ ap₂ (λ (y z : List Cover). joins y (meets e k rest) z) (own done rows f) (own new added g)
+      ∙ sym (meets-parts done (r ∷ rest) new
+      ∙ ap (λ (z : List Cover). joins (meets e k done) z (meets e k new)) (meets-append e k (r ∷ []) rest ∙ ap (λ (z : List Cover). z ++ meets e k rest) (meets-own e k (r ∷ []) (h, tt))))
+    where
+      own : (l w : List Entry) → Every (λ i. i .mark .train ≡ r .mark .train) w → meets e k (l ++ w) ≡ meets e k l
+      own l w q =
+          meets-append e k l w
+          ∙ ap (λ (z : List Cover). meets e k l ++ z) (meets-own e k w (every-more (λ i. i .mark .train ≡ r .mark .train) (λ i. i .mark .train ≡ k) (λ i j. j ∙ h) w q))
+          ∙ append-nil (meets e k l)
+
+  abbrev afterWalk : List Entry → List Entry → List Entry → List Entry
+  afterWalk done rest new = (done ++ each hold rest) ++ (new ++ each add rest)
+
+  record Walked (done rest new v : List Entry) (s : State Entry) : Type 0 where
+    list : s .list ≡ afterWalk done rest new
+    arrived : s .arrived ≡ v ++ each arrive rest
+
+  walk-passed : (done rest new v : List Entry) (n : ℕ) → meets e k (done ++ (rest ++ new)) ≡ qs → Walked done rest new v (walk C (jointRules C) t e k done rest new v n)
+  unfolding walk jointRules
+  walk-passed done [] new v n h = record { list = sym (ap₂ _++_ (append-nil done) (append-nil new)); arrived = sym (append-nil v) }
+  walk-passed done (r ∷ rest) new v n h = go (mine C (jointRules C) t e k r) refl (λ d w. walk-passed d rest w)
+    where
+      -- what the next rows come to, put together with what this row came to
+      joined : (s : State Entry) (rows added arrived : List Entry) → hold r ≡ rows → add r ≡ added → arrive r ≡ arrived
+          → Walked (done ++ rows) rest (new ++ added) (v ++ arrived) s → Walked done (r ∷ rest) new v s
+      joined s rows added arrived a b c w = record {
+        list = w .list ∙ ap₂ _++_
+            (append-assoc done rows (each hold rest) ∙ ap (λ (z : List Entry). done ++ (z ++ each hold rest)) (sym a))
+            (append-assoc new added (each add rest) ∙ ap (λ (z : List Entry). new ++ (z ++ each add rest)) (sym b));
+        arrived = w .arrived ∙ append-assoc v arrived (each arrive rest) ∙ ap (λ (z : List Entry). v ++ (z ++ each arrive rest)) (sym c);
+      }
+
+      go : (b : Bool) → mine C (jointRules C) t e k r ≡ b
+          → ((d w v : List Entry) (n : ℕ) → meets e k (d ++ (rest ++ w)) ≡ qs → Walked d rest w v (walk C (jointRules C) t e k d rest w v n))
+          → Walked done (r ∷ rest) new v (walkOne C (jointRules C) t e (λ d w. walk C (jointRules C) t e k d rest w) done r rest new v n b)
+      go true q ih =
+          joined (walk C (jointRules C) t e k (done ++ s .rows) rest (new ++ s .added) (v ++ s .arrived) (metWith C (jointRules C) t e n (servedList s done (rest ++ new))))
+          (s .rows) (s .added) (s .arrived) (ap (λ (z : Served Entry). z .rows) came) (ap (λ (z : Served Entry). z .added) came) (ap (λ (z : Served Entry). z .arrived) came)
+          (ih (done ++ s .rows) (new ++ s .added) (v ++ s .arrived) (metWith C (jointRules C) t e n (servedList s done (rest ++ new)))
+          (meets-same done r rest new (s .rows) (s .added) is-k (joint-own C t e cur r .0) (joint-own C t e cur r .1) ∙ h))
+        where
+          cur : List Entry
+          cur = done ++ (r ∷ (rest ++ new))
+
+          s : Served Entry
+          s = serveEntry C t e cur r
+
+          is-k : r .mark .train ≡ k
+          is-k = asksFor-train C t e k (r .mark) q
+
+          came : passed C t e k qs r ≡ s
+          came =
+              passed-asker r q
+              ∙ ap (λ (z : List Cover). serveAmong C t e z r) (sym (ap (λ (j : ℕ). meets e j cur) is-k ∙ h))
+              ∙ sym (serveEntry-among C t e cur r)
+      go false q ih =
+          joined (walk C (jointRules C) t e k (done ++ (r ∷ [])) rest new v n) (r ∷ []) [] []
+          (ap (λ (z : Served Entry). z .rows) (passed-other r q)) (ap (λ (z : Served Entry). z .added) (passed-other r q)) (ap (λ (z : Served Entry). z .arrived) (passed-other r q))
+          (subst₂ (λ (y z : List Entry). Walked (done ++ (r ∷ [])) rest y z (walk C (jointRules C) t e k (done ++ (r ∷ [])) rest new v n))
+          (sym (append-nil new)) (sym (append-nil v))
+          (ih (done ++ (r ∷ [])) new v n (ap (meets e k) (append-assoc done (r ∷ []) (rest ++ new)) ∙ h)))
+
+-- ---- a whole list
+
+module _ (C : Case) (t : ℕ) (e : Place) (k : ℕ) (l v : List Entry) (n : ℕ) where
+  walked : Walked C t e k (meets e k l) [] l [] v (walk C (jointRules C) t e k [] l [] v n)
+  walked = walk-passed C t e k (meets e k l) [] l [] v n (ap (meets e k) (append-nil l))
+
+  pub walk-list : walk C (jointRules C) t e k [] l [] v n .list ≡ passList C t e k l
+  unfolding passList
+  walk-list = walked .list
+
+  pub walk-arrived : walk C (jointRules C) t e k [] l [] v n .arrived ≡ v ++ passArrived C t e k l
+  unfolding passArrived
+  walk-arrived = walked .arrived

@@ -1,0 +1,302 @@
+-- The joint run and the single run of a choice, turn by turn: what the choice sees of the one is the other, and the other is in order.
+-- An asker that covers the choice is next in both; one that does not changes nothing that the choice sees. Takes `Sound` as given, and assumes nothing else.
+use mathlib.Core.Path.{_≡_, refl, sym, ap, _∙_, subst}
+use mathlib.Core.Bool.{Bool, true, false, not, cond}
+use mathlib.Core.List.{List, [], _∷_, _++_, map, append-nil}
+use Prim.Native.Nat.{ℕ, zero, suc, _≤_}
+use native.Mathlib.Nat.{le-trans, le-of-eq}
+use native.Mathlib.Omega.{arith}
+use lib.ListN.{length, length-map}
+use lib.Dec.{ltb}
+use Rattle.rules.specs.Lists.{one, keep, tick, count, fold}
+use Rattle.rules.specs.Refusals.{firstOf}
+use Rattle.rules.specs.Files.{Case}
+use Rattle.rules.specs.Turns.{Place, Mark, elements, ended, asks, sooner, Served, served, State, state, Row, row, items, quiet, Turn, Rules, next, serveOne, serveAll, visit, minute, minutes, runFrom}
+use Rattle.rules.specs.Turns.Turn.{nobody, somebody}
+use Rattle.rules.specs.Single.{serveTrain, singleRules}
+use Rattle.rules.specs.Joint.{covers, Entry, serveEntry, jointRules}
+use Rattle.theory_sound.specs.Facts.{Sound}
+use Rattle.theory_lists.specs.Every.{Every, every-right, every-keep}
+use Rattle.theory_lists.specs.Sums.{sum-append, count-le, count-none}
+use Rattle.theory_simulation.specs.Askers.{Asking, First, Chosen, next-chosen, next-nobody, next-first}
+use Rattle.theory_lists.specs.Items.{items-start, servedRows, servedList, items-asker, items-served}
+use Rattle.theory_simulation.specs.Keeping.{asking-start, served-asking}
+use Rattle.theory_simulation.specs.Orderly.{Orderly}
+use Rattle.theory_simulation.specs.Steps.{serve-orderly, end-orderly}
+use Rattle.theory_simulation.specs.View.{Choice, view, viewRows, viewServed, view-append, viewRows-append, viewRows-cons, viewRows-start, items-view, viewRows-asking, viewRows-none, view-end}
+use Rattle.theory_simulation.specs.Serving.{Proper, serve-proper, serve-view, viewRows-served}
+
+-- ---- how many rows ask
+
+module _ {A : Type 0} where
+  abbrev pub askers : List (Row A) → ℕ
+  askers rs = count (λ r. r .asking) rs
+
+  askers-quiet : (l : List A) → askers (quiet l) ≡ 0
+  askers-quiet [] = refl
+  askers-quiet (a ∷ l) = omega (arith, askers-quiet l)
+
+  -- serving an asker leaves one less
+  pub askers-served : (s : Served A) (b : List (Row A)) (a : A) (c : List (Row A)) → suc (askers (servedRows s b c)) ≡ askers (b ++ (row a true ∷ c))
+  askers-served s b a c =
+      omega (
+        arith,
+        sum-append f (b ++ quiet (s .rows) ++ c) (quiet (s .added)),
+        sum-append f (b ++ quiet (s .rows)) c,
+        sum-append f b (quiet (s .rows)),
+        sum-append f b (row a true ∷ c),
+        askers-quiet (s .rows),
+        askers-quiet (s .added),
+      )
+    where
+      f : Row A → ℕ
+      f r = tick (r .asking)
+
+  -- where nobody asks, however many turns there are, nothing happens
+  pub serveAll-nobody : (C : Case) (R : Rules A) (k t : ℕ) (e : Place) (rs : List (Row A)) (v : List A) (n : ℕ) → Every (λ r. r .asking ≡ false) rs
+      → serveAll C R k t e rs v n ≡ state (items rs) v n
+  unfolding serveAll
+  serveAll-nobody C R zero t e rs v n h = refl
+  serveAll-nobody C R (suc k) t e rs v n h = ap (serveOne C R t e (serveAll C R k t e) rs v n) (next-nobody C R rs h)
+
+-- ---- the two runs
+
+-- what the choice sees of a state of the joint run is a state of its single run, which is in order
+pub record Twin (C : Case) (x : List ℕ) (s : State Entry) (u : State Mark) : Type 0 where
+  pub list : view x (s .list) ≡ u .list
+  pub arrived : view x (s .arrived) ≡ u .arrived
+  pub proper : Every (Proper C) (s .list)
+  pub orderly : Orderly C (u .list) (u .arrived)
+
+-- the same between two turns: rs and ws are the rows, v and w what has arrived
+record Rows (C : Case) (x : List ℕ) (t : ℕ) (e : Place) (rs : List (Row Entry)) (v : List Entry) (ws : List (Row Mark)) (w : List Mark) : Type 0 where
+  rows : viewRows x rs ≡ ws
+  arrived : view x v ≡ w
+  asking : Every (Asking (jointRules C) (λ m. asks C t e m ≡ true)) rs
+  proper : Every (Proper C) (items rs)
+  orderly : Orderly C (items ws) w
+
+module _ (C : Case) (sound : Sound C) (x : List ℕ) (ch : Choice C x) where
+  -- the rows around the next asker, as the choice sees them
+  around-view : (b : List (Row Entry)) (a : Entry) (c : List (Row Entry)) (z : Bool) → covers (a .cover) x ≡ z
+      → viewRows x (b ++ (row a true ∷ c)) ≡ viewRows x b ++ (one z (row (a .mark) true) ++ viewRows x c)
+  around-view b a c z q =
+      viewRows-append x b (row a true ∷ c)
+      ∙ ap (λ (l : List (Row Mark)). viewRows x b ++ l) (viewRows-cons x (row a true) c ∙ ap (λ (y : Bool). one y (row (a .mark) true) ++ viewRows x c) q)
+
+  -- a next asker that covers the choice is next in the single run
+  next-view : (rs b : List (Row Entry)) (a : Entry) (c : List (Row Entry)) → First C (jointRules C) rs b a c → covers (a .cover) x ≡ true
+      → next C (singleRules C) (viewRows x rs) ≡ somebody (viewRows x b) (a .mark) (viewRows x c)
+  unfolding jointRules singleRules
+  next-view rs b a c f q =
+      ap (next C (singleRules C)) (ap (viewRows x) (f .apart) ∙ around-view b a c true q)
+      ∙ next-first C (singleRules C) (viewRows x b) (a .mark) (viewRows x c)
+      (viewRows-asking x C (λ m. sooner C (a .mark) m ≡ true) b (f .earlier))
+      (viewRows-asking x C (λ m. sooner C m (a .mark) ≡ false) c (f .later))
+
+  module _ (t : ℕ) (e : Place) where
+    -- ---- one asker
+
+    module _ (rs b : List (Row Entry)) (a : Entry) (c : List (Row Entry)) (v : List Entry) (ws : List (Row Mark)) (w : List Mark)
+        (first : First C (jointRules C) rs b a c) (at : Rows C x t e rs v ws w) where
+      abbrev came : Served Entry
+      came = serveEntry C t e (items rs) a
+
+      abbrev went : Served Mark
+      went = serveTrain C t e (items ws) (a .mark)
+
+      here : items rs ≡ items b ++ (a ∷ items c)
+      here = ap items (first .apart) ∙ items-asker b a c
+
+      asking-here : Every (Asking (jointRules C) (λ m. asks C t e m ≡ true)) (b ++ (row a true ∷ c))
+      asking-here = subst (Every (Asking (jointRules C) (λ m. asks C t e m ≡ true))) (first .apart) (at .asking)
+
+      proper-here : Every (Proper C) (items b ++ (a ∷ items c))
+      proper-here = subst (Every (Proper C)) here (at .proper)
+
+      asks-here : asks C t e (a .mark) ≡ true
+      unfolding jointRules
+      asks-here = every-right (Asking (jointRules C) (λ m. asks C t e m ≡ true)) b (row a true ∷ c) asking-here .0 refl
+
+      marks-here : items ws ≡ view x (items b ++ (a ∷ items c))
+      marks-here = ap items (sym (at .rows)) ∙ items-view x rs ∙ ap (view x) here
+
+      came-seen : viewServed x came ≡ cond (covers (a .cover) x) went (served [] [] [])
+      came-seen =
+          ap (λ (l : List Entry). viewServed x (serveEntry C t e l a)) here
+          ∙ serve-view C sound x ch t e (items b) a (items c) w proper-here asks-here (subst (λ (l : List Mark). Orderly C l w) marks-here (at .orderly))
+          ∙ ap (λ (l : List Mark). cond (covers (a .cover) x) (serveTrain C t e l (a .mark)) (served [] [] [])) (sym marks-here)
+
+      proper-after : Every (Proper C) (items (servedRows came b c))
+      proper-after =
+          subst (Every (Proper C)) (sym (items-served came b c))
+          (subst (λ (l : List Entry). Every (Proper C) (servedList (serveEntry C t e l a) (items b) (items c))) (sym here)
+          (serve-proper C t e (items b) a (items c) [] proper-here tt .0))
+
+      asking-after : Every (Asking (jointRules C) (λ m. asks C t e m ≡ true)) (servedRows came b c)
+      asking-after = served-asking (jointRules C) (λ m. asks C t e m ≡ true) came b a c asking-here
+
+      arrived-after : view x (v ++ came .arrived) ≡ w ++ viewServed x came .arrived
+      arrived-after = view-append x v (came .arrived) ∙ ap (λ (l : List Mark). l ++ view x (came .arrived)) (at .arrived)
+
+      -- an asker that does not cover the choice leaves what the choice sees
+      apart-after : covers (a .cover) x ≡ false → Rows C x t e (servedRows came b c) (v ++ came .arrived) ws w
+      apart-after q = record {
+        rows =
+            viewRows-served x came b c
+            ∙ ap (λ (s : Served Mark). servedRows s (viewRows x b) (viewRows x c)) nothing
+            ∙ append-nil (viewRows x b ++ [] ++ viewRows x c)
+            ∙ ap (λ (l : List (Row Mark)). l ++ viewRows x c) (append-nil (viewRows x b))
+            ∙ sym (around-view b a c false q)
+            ∙ ap (viewRows x) (sym (first .apart))
+            ∙ at .rows;
+        arrived = arrived-after ∙ ap (λ (s : Served Mark). w ++ s .arrived) nothing ∙ append-nil w;
+        asking = asking-after;
+        proper = proper-after;
+        orderly = at .orderly;
+      }
+        where
+          nothing : viewServed x came ≡ served [] [] []
+          nothing = came-seen ∙ ap (λ (z : Bool). cond z went (served [] [] [])) q
+
+      -- an asker that covers the choice is seen to be served as in the single run
+      same-after : covers (a .cover) x ≡ true
+          → Rows C x t e (servedRows came b c) (v ++ came .arrived) (servedRows went (viewRows x b) (viewRows x c)) (w ++ went .arrived)
+      same-after q = record {
+        rows = viewRows-served x came b c ∙ ap (λ (s : Served Mark). servedRows s (viewRows x b) (viewRows x c)) same;
+        arrived = arrived-after ∙ ap (λ (s : Served Mark). w ++ s .arrived) same;
+        asking = asking-after;
+        proper = proper-after;
+        orderly =
+            subst (λ (l : List Mark). Orderly C l (w ++ went .arrived)) (sym (items-served went (viewRows x b) (viewRows x c)))
+            (subst (λ (l : List Mark). Orderly C (servedList (serveTrain C t e l (a .mark)) (items (viewRows x b)) (items (viewRows x c))) (w ++ serveTrain C t e l (a .mark) .arrived))
+            (sym marks)
+            (serve-orderly C sound t e (a .mark) asks-here (items (viewRows x b)) (items (viewRows x c)) w (subst (λ (l : List Mark). Orderly C l w) marks (at .orderly))));
+      }
+        where
+          same : viewServed x came ≡ went
+          same = came-seen ∙ ap (λ (z : Bool). cond z went (served [] [] [])) q
+
+          marks : items ws ≡ items (viewRows x b) ++ (a .mark ∷ items (viewRows x c))
+          marks = ap items (sym (at .rows) ∙ ap (viewRows x) (first .apart) ∙ around-view b a c true q) ∙ items-asker (viewRows x b) (a .mark) (viewRows x c)
+
+    -- ---- one turn after another
+
+    -- k turns of the joint run are enough, and h of the single run
+    abbrev Turns : ℕ → Type 0
+    Turns k = (h : ℕ) (rs : List (Row Entry)) (v : List Entry) (n : ℕ) (ws : List (Row Mark)) (w : List Mark) (o : ℕ) → Rows C x t e rs v ws w → askers rs ≤ k → askers ws ≤ h
+        → Twin C x (serveAll C (jointRules C) k t e rs v n) (serveAll C (singleRules C) h t e ws w o)
+
+    nobody-twin : (h : ℕ) (rs : List (Row Entry)) (v : List Entry) (n : ℕ) (ws : List (Row Mark)) (w : List Mark) (o : ℕ) → Rows C x t e rs v ws w
+        → Every (λ r. r .asking ≡ false) rs → Twin C x (state (items rs) v n) (serveAll C (singleRules C) h t e ws w o)
+    nobody-twin h rs v n ws w o at f =
+        subst (Twin C x (state (items rs) v n))
+        (sym (serveAll-nobody C (singleRules C) h t e ws w o (subst (Every (λ r. r .asking ≡ false)) (at .rows) (viewRows-none x rs f))))
+        (record { list = sym (items-view x rs) ∙ ap items (at .rows); arrived = at .arrived; proper = at .proper; orderly = at .orderly })
+
+    turn-twin : (k : ℕ) → Turns k → (h : ℕ) (rs : List (Row Entry)) (v : List Entry) (n : ℕ) (ws : List (Row Mark)) (w : List Mark) (o : ℕ) → Rows C x t e rs v ws w
+        → askers rs ≤ suc k → askers ws ≤ h → (b : List (Row Entry)) (a : Entry) (c : List (Row Entry)) → First C (jointRules C) rs b a c
+        → Twin C x (serveOne C (jointRules C) t e (serveAll C (jointRules C) k t e) rs v n (somebody b a c)) (serveAll C (singleRules C) h t e ws w o)
+    unfolding serveAll jointRules singleRules
+    turn-twin k ih h rs v n ws w o at enough full b a c first = go (covers (a .cover) x) refl h full
+      where
+        s : Served Entry
+        s = serveEntry C t e (items rs) a
+
+        less : suc (askers (servedRows s b c)) ≡ askers rs
+        less = askers-served s b a c ∙ ap askers (sym (first .apart))
+
+        m : ℕ
+        m = firstOf (ltb 0 n) n (jointRules C .check (items (servedRows s b c)))
+
+        go : (z : Bool) → covers (a .cover) x ≡ z → (h : ℕ) → askers ws ≤ h
+            → Twin C x (serveAll C (jointRules C) k t e (servedRows s b c) (v ++ s .arrived) m) (serveAll C (singleRules C) h t e ws w o)
+        go false q h full = ih h (servedRows s b c) (v ++ s .arrived) m ws w o (apart-after rs b a c v ws w first at q) (omega (arith, less)) full
+        go true q h full = by h full
+          where
+            u : Served Mark
+            u = serveTrain C t e (items ws) (a .mark)
+
+            wb : List (Row Mark)
+            wb = viewRows x b
+
+            wc : List (Row Mark)
+            wc = viewRows x c
+
+            next-is : next C (singleRules C) ws ≡ somebody wb (a .mark) wc
+            next-is = ap (next C (singleRules C)) (sym (at .rows)) ∙ next-view rs b a c first q
+
+            fewer : suc (askers (servedRows u wb wc)) ≡ askers ws
+            fewer = askers-served u wb (a .mark) wc ∙ ap askers (sym (sym (at .rows) ∙ ap (viewRows x) (first .apart) ∙ around-view b a c true q))
+
+            by : (h : ℕ) → askers ws ≤ h → Twin C x (serveAll C (jointRules C) k t e (servedRows s b c) (v ++ s .arrived) m) (serveAll C (singleRules C) h t e ws w o)
+            by zero full = absurd (omega (arith, fewer))
+            by (suc h) full =
+                subst (λ (y : Turn Mark). Twin C x (serveAll C (jointRules C) k t e (servedRows s b c) (v ++ s .arrived) m)
+                (serveOne C (singleRules C) t e (serveAll C (singleRules C) h t e) ws w o y)) (sym next-is)
+                (ih h (servedRows s b c) (v ++ s .arrived) m (servedRows u wb wc) (w ++ u .arrived)
+                (firstOf (ltb 0 o) o (singleRules C .check (items (servedRows u wb wc))))
+                (same-after rs b a c v ws w first at q) (omega (arith, less)) (omega (arith, fewer)))
+
+    serveAll-twin : (k : ℕ) → Turns k
+    unfolding serveAll
+    serveAll-twin zero h rs v n ws w o at enough full = nobody-twin h rs v n ws w o at (count-none (λ r. r .asking) rs enough)
+    serveAll-twin (suc k) h rs v n ws w o at enough full = go (next C (jointRules C) rs) (next-chosen C (jointRules C) rs) (serveAll-twin k)
+      where
+        go : (y : Turn Entry) → Chosen C (jointRules C) rs y → Turns k
+            → Twin C x (serveOne C (jointRules C) t e (serveAll C (jointRules C) k t e) rs v n y) (serveAll C (singleRules C) h t e ws w o)
+        go nobody f ih = nobody-twin h rs v n ws w o at f
+        go (somebody b a c) f ih = turn-twin k ih h rs v n ws w o at enough full b a c f
+
+    -- ---- one element after another
+
+    visit-twin : (s : State Entry) (u : State Mark) → Twin C x s u → Twin C x (visit C (jointRules C) t e s) (visit C (singleRules C) t e u)
+    unfolding visit jointRules singleRules
+    visit-twin s u w =
+        serveAll-twin (length (s .list)) (length (u .list)) rs (s .arrived) (s .met) ws (u .arrived) (u .met)
+        (record {
+          rows = viewRows-start x (asks C t e) (s .list) ∙ ap (map (λ m. row m (asks C t e m))) (w .list);
+          arrived = w .arrived;
+          asking = asking-start C (jointRules C) t e (s .list);
+          proper = subst (Every (Proper C)) (sym (items-start (λ r. asks C t e (r .mark)) (s .list))) (w .proper);
+          orderly = subst (λ (l : List Mark). Orderly C l (u .arrived)) (sym (items-start (asks C t e) (u .list))) (w .orderly);
+        })
+        (le-trans (count-le (λ r. r .asking) rs) (le-of-eq (length-map (s .list) (λ r. row r (asks C t e (r .mark))))))
+        (le-trans (count-le (λ r. r .asking) ws) (le-of-eq (length-map (u .list) (λ m. row m (asks C t e m)))))
+      where
+        rs : List (Row Entry)
+        rs = map (λ r. row r (asks C t e (r .mark))) (s .list)
+
+        ws : List (Row Mark)
+        ws = map (λ m. row m (asks C t e m)) (u .list)
+
+  visits-twin : (t : ℕ) (es : List Place) (s : State Entry) (u : State Mark) → Twin C x s u
+      → Twin C x (fold (visit C (jointRules C) t) es s) (fold (visit C (singleRules C) t) es u)
+  visits-twin t [] s u w = w
+  visits-twin t (e ∷ es) s u w = visits-twin t es (visit C (jointRules C) t e s) (visit C (singleRules C) t e u) (visit-twin t e s u w)
+
+  -- ---- one minute after another
+
+  minute-twin : (t : ℕ) (s : State Entry) (u : State Mark) → Twin C x s u → Twin C x (minute C (jointRules C) t s) (minute C (singleRules C) t u)
+  unfolding minute jointRules singleRules
+  minute-twin t s u w =
+      visits-twin t (elements C) (state (keep (λ r. not (ended t (r .mark))) (s .list)) (s .arrived) (s .met)) (state (keep (λ m. not (ended t m)) (u .list)) (u .arrived) (u .met))
+      (record {
+        list = view-end x t (s .list) ∙ ap (keep (λ m. not (ended t m))) (w .list);
+        arrived = w .arrived;
+        proper = every-keep (Proper C) (λ r. not (ended t (r .mark))) (s .list) (w .proper);
+        orderly = end-orderly C t (u .list) (u .arrived) (w .orderly);
+      })
+
+  minutes-twin : (n : ℕ) (s : State Entry) (u : State Mark) → Twin C x s u → Twin C x (minutes C (jointRules C) n s) (minutes C (singleRules C) n u)
+  unfolding minutes
+  minutes-twin zero s u w = w
+  minutes-twin (suc n) s u w = minute-twin n (minutes C (jointRules C) n s) (minutes C (singleRules C) n u) (minutes-twin n s u w)
+
+  -- runs from lists of which the choice sees the one as the other
+  pub run-twin : (l : List Entry) (ms : List Mark) → view x l ≡ ms → Every (Proper C) l → Orderly C ms []
+      → (m : ℕ) → Twin C x (runFrom C (jointRules C) l m) (runFrom C (singleRules C) ms m)
+  unfolding runFrom view
+  run-twin l ms seen proper orderly m =
+      minutes-twin (suc m) (state l [] (jointRules C .check l)) (state ms [] (singleRules C .check ms))
+      (record { list = seen; arrived = refl; proper = proper; orderly = orderly })

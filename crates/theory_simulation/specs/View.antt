@@ -1,0 +1,235 @@
+-- What a choice sees of the joint run, and that it sees an asker served as the single run serves it.
+-- The pieces give the choice one verdict, and other trains' entries that cover it are as many as the trains on the element, by the order kept. Takes `Sound` as given, and assumes nothing else.
+use mathlib.Core.Path.{_≡_, refl, sym, ap, _∙_}
+use mathlib.Core.Bool.{Bool, true, false, not, _&&_, cond}
+use mathlib.Core.List.{List, [], _∷_, _++_, map, append-nil}
+use Prim.Native.Nat.{ℕ, _+_}
+use native.Mathlib.Omega.{arith}
+use lib.Dec.{leb, eqb}
+use Rattle.rules.specs.Lists.{one, each, keep, tick, sum, count}
+use Rattle.rules.specs.Files.{Case}
+use Rattle.rules.specs.Turns.{Place, same, Mark, capacity, asks, ended, Served, served, Row, row, items, quiet}
+use Rattle.rules.specs.Turns.Place.{gone}
+use Rattle.rules.specs.Single.{trainsOn, singleRules}
+use Rattle.rules.specs.Joint.{Cover, covers, whole, Entry, entry, Piece, piece, carry, meets, pieces, jointRules}
+use Rattle.theory_sound.specs.Facts.{Sound}
+use Rattle.theory_lists.specs.Each.{each-append, each-map, each-each, each-same, each-none, each-self, each-one}
+use Rattle.theory_lists.specs.Every.{Every, every-each, every-one, every-all}
+use Rattle.theory_lists.specs.Sums.{sum-each, sum-every, sum-one, sum-plus}
+use Rattle.theory_simulation.specs.Covers.{Fits}
+use Rattle.theory_simulation.specs.Cutting.{verdicts, hits, carry-law}
+use Rattle.theory_simulation.specs.Askers.{Asking}
+use Rattle.theory_simulation.specs.Orderly.{isOn, isAt, Orderly, trainsOn-count}
+use Rattle.theory_simulation.specs.Steps.{asker-none}
+
+-- ---- the definitions
+
+-- one delay of each train's table
+abbrev pub Choice : Case → List ℕ → Type 0
+Choice C x = covers (whole C) x ≡ true
+
+-- the marks of the entries that cover the choice
+unfoldable pub view : List ℕ → List Entry → List Mark
+view x rs = each (λ r. one (covers (r .cover) x) (r .mark)) rs
+
+-- the same of rows, which ask or do not
+unfoldable pub viewRows : List ℕ → List (Row Entry) → List (Row Mark)
+viewRows x rs = each (λ r. one (covers (r .item .cover) x) (row (r .item .mark) (r .asking))) rs
+
+-- the same of what comes of an asker
+abbrev pub viewServed : List ℕ → Served Entry → Served Mark
+viewServed x s = served (view x (s .rows)) (view x (s .added)) (view x (s .arrived))
+
+-- ---- the covers that are met
+
+-- what holds of each entry's cover holds of each that an asker meets
+pub meets-covers : (P : Cover → Type 0) (e : Place) (k : ℕ) (rs : List Entry) → Every (λ r. P (r .cover)) rs → Every P (meets e k rs)
+unfolding meets
+meets-covers P e k rs h = search (every-each, every-one)
+
+-- ---- views of lists and of rows
+
+-- two tests of one item may change places
+one-swap : (m : Mark) (a b : Bool) → cond a (one b m) [] ≡ cond b (one a m) []
+one-swap m true true = refl
+one-swap m true false = refl
+one-swap m false true = refl
+one-swap m false false = refl
+
+module _ (x : List ℕ) where
+  pub view-append : (s t : List Entry) → view x (s ++ t) ≡ view x s ++ view x t
+  unfolding view
+  view-append s t = each-append (λ r. one (covers (r .cover) x) (r .mark)) s t
+
+  pub viewRows-append : (s t : List (Row Entry)) → viewRows x (s ++ t) ≡ viewRows x s ++ viewRows x t
+  unfolding viewRows
+  viewRows-append s t = each-append (λ r. one (covers (r .item .cover) x) (row (r .item .mark) (r .asking))) s t
+
+  pub view-cons : (r : Entry) (rs : List Entry) → view x (r ∷ rs) ≡ one (covers (r .cover) x) (r .mark) ++ view x rs
+  unfolding view
+  view-cons r rs = refl
+
+  pub viewRows-cons : (r : Row Entry) (rs : List (Row Entry)) → viewRows x (r ∷ rs) ≡ one (covers (r .item .cover) x) (row (r .item .mark) (r .asking)) ++ viewRows x rs
+  unfolding viewRows
+  viewRows-cons r rs = refl
+
+  -- the rows seen of a list's rows are those of the list seen
+  pub viewRows-start : (f : Mark → Bool) (l : List Entry) → viewRows x (map (λ r. row r (f (r .mark))) l) ≡ map (λ m. row m (f m)) (view x l)
+  unfolding viewRows view
+  viewRows-start f [] = refl
+  viewRows-start f (r ∷ l) = go (covers (r .cover) x) (viewRows-start f l)
+    where
+      go : (c : Bool) → viewRows x (map (λ r. row r (f (r .mark))) l) ≡ map (λ m. row m (f m)) (view x l)
+          → one c (row (r .mark) (f (r .mark))) ++ viewRows x (map (λ r. row r (f (r .mark))) l) ≡ map (λ m. row m (f m)) (one c (r .mark) ++ view x l)
+      go true ih = ap (λ (z : List (Row Mark)). row (r .mark) (f (r .mark)) ∷ z) ih
+      go false ih = ih
+
+  pub viewRows-quiet : (l : List Entry) → viewRows x (quiet l) ≡ quiet (view x l)
+  viewRows-quiet l = viewRows-start (λ m. false) l
+
+  pub items-view : (rs : List (Row Entry)) → items (viewRows x rs) ≡ view x (items rs)
+  unfolding viewRows view
+  items-view [] = refl
+  items-view (r ∷ rs) = go (covers (r .item .cover) x) (items-view rs)
+    where
+      go : (c : Bool) → items (viewRows x rs) ≡ view x (items rs) → items (one c (row (r .item .mark) (r .asking)) ++ viewRows x rs) ≡ one c (r .item .mark) ++ view x (items rs)
+      go true ih = ap (λ (z : List Mark). r .item .mark ∷ z) ih
+      go false ih = ih
+
+  -- what asking rows have, the rows seen of them have
+  pub viewRows-asking : (C : Case) (P : Mark → Type 0) (rs : List (Row Entry)) → Every (Asking (jointRules C) P) rs → Every (Asking (singleRules C) P) (viewRows x rs)
+  unfolding viewRows jointRules singleRules
+  viewRows-asking C P rs h =
+      every-each (Asking (jointRules C) P) (Asking (singleRules C) P) (λ r. one (covers (r .item .cover) x) (row (r .item .mark) (r .asking)))
+      (λ r f. every-one (Asking (singleRules C) P) (covers (r .item .cover) x) (row (r .item .mark) (r .asking)) (λ q. f)) rs h
+
+  pub viewRows-none : (rs : List (Row Entry)) → Every (λ r. r .asking ≡ false) rs → Every (λ r. r .asking ≡ false) (viewRows x rs)
+  unfolding viewRows
+  viewRows-none rs h =
+      every-each (λ r. r .asking ≡ false) (λ r. r .asking ≡ false) (λ r. one (covers (r .item .cover) x) (row (r .item .mark) (r .asking)))
+      (λ r f. every-one (λ r. r .asking ≡ false) (covers (r .item .cover) x) (row (r .item .mark) (r .asking)) (λ q. f)) rs h
+
+  -- the entries of a kind that cover the choice have the marks of that kind that it sees
+  pub view-keep : (test : Mark → Bool) (rs : List Entry) → map (λ r. r .mark) (keep (λ r. covers (r .cover) x && test (r .mark)) rs) ≡ keep test (view x rs)
+  unfolding view
+  view-keep test [] = refl
+  view-keep test (r ∷ rs) = go (covers (r .cover) x) (test (r .mark)) refl (view-keep test rs)
+    where
+      rest : List Entry
+      rest = keep (λ a. covers (a .cover) x && test (a .mark)) rs
+
+      go : (c b : Bool) → test (r .mark) ≡ b → map (λ a. a .mark) rest ≡ keep test (view x rs)
+          → map (λ a. a .mark) (one (c && b) r ++ rest) ≡ keep test (one c (r .mark) ++ view x rs)
+      go true true q ih = ap (λ (l : List Mark). r .mark ∷ l) ih ∙ ap (λ (z : Bool). one z (r .mark) ++ keep test (view x rs)) (sym q)
+      go true false q ih = ih ∙ ap (λ (z : Bool). one z (r .mark) ++ keep test (view x rs)) (sym q)
+      go false b q ih = ih
+
+  -- blocks that end are seen to end
+  pub view-end : (t : ℕ) (rs : List Entry) → view x (keep (λ r. not (ended t (r .mark))) rs) ≡ keep (λ m. not (ended t m)) (view x rs)
+  unfolding view
+  view-end t rs =
+      each-each (λ r. one (covers (r .cover) x) (r .mark)) (λ r. one (not (ended t (r .mark))) r) rs
+      ∙ each-same (λ r. each (λ a. one (covers (a .cover) x) (a .mark)) (one (not (ended t (r .mark))) r))
+      (λ r. each (λ m. one (not (ended t m)) m) (one (covers (r .cover) x) (r .mark)))
+      (λ r. each-one (λ a. one (covers (a .cover) x) (a .mark)) (not (ended t (r .mark))) r
+      ∙ one-swap (r .mark) (not (ended t (r .mark))) (covers (r .cover) x)
+      ∙ sym (each-one (λ m. one (not (ended t m)) m) (covers (r .cover) x) (r .mark))) rs
+      ∙ sym (each-each (λ m. one (not (ended t m)) m) (λ r. one (covers (r .cover) x) (r .mark)) rs)
+
+  -- ---- views of pieces
+
+  -- what is made of the pieces, seen through what is made of their verdicts
+  through {ℓ} : {B : Type ℓ} (f : Piece → List B) (g : Bool → List B) → ((q : Piece) → f q ≡ cond (covers (q .cover) x) (g (q .held)) [])
+      → (ps : List Piece) (c h : Bool) → verdicts x ps ≡ one c h → each f ps ≡ cond c (g h) []
+  unfolding verdicts
+  through f g e ps c h v =
+      each-same f (λ q. each g (one (covers (q .cover) x) (q .held))) (λ q. e q ∙ sym (each-one g (covers (q .cover) x) (q .held))) ps
+      ∙ sym (each-each g (λ q. one (covers (q .cover) x) (q .held)) ps)
+      ∙ ap (each g) v
+      ∙ each-one g c h
+
+  -- held pieces of an entry with the mark m
+  pub held-view : (m : Mark) (ps : List Piece) (c h : Bool) → verdicts x ps ≡ one c h
+      → view x (map (λ q. entry m (q .cover)) (keep (λ q. q .held) ps)) ≡ cond c (one h m) []
+  unfolding view
+  held-view m ps c h v =
+      each-map (λ r. one (covers (r .cover) x) (r .mark)) (λ q. entry m (q .cover)) (keep (λ q. q .held) ps)
+      ∙ each-each (λ q. one (covers (q .cover) x) m) (λ q. one (q .held) q) ps
+      ∙ through (λ q. each (λ a. one (covers (a .cover) x) m) (one (q .held) q)) (λ b. one b m)
+      (λ q. each-one (λ a. one (covers (a .cover) x) m) (q .held) q ∙ one-swap m (q .held) (covers (q .cover) x)) ps c h v
+
+  -- marks under one cover
+  under-view : (p : Cover) (new : List Mark) → view x (map (λ m. entry m p) new) ≡ cond (covers p x) new []
+  unfolding view
+  under-view p new = each-map (λ r. one (covers (r .cover) x) (r .mark)) (λ m. entry m p) new ∙ go (covers p x)
+    where
+      go : (c : Bool) → each (λ m. one c m) new ≡ cond c new []
+      go true = each-self new
+      go false = each-none new
+
+  -- the marks that entering pieces make
+  pub entering-view : (new : List Mark) (ps : List Piece) (c h : Bool) → verdicts x ps ≡ one c h
+      → view x (each (λ q. map (λ m. entry m (q .cover)) new) (keep (λ q. not (q .held)) ps)) ≡ cond c (cond h [] new) []
+  unfolding view
+  entering-view new ps c h v =
+      each-each (λ r. one (covers (r .cover) x) (r .mark)) (λ q. map (λ m. entry m (q .cover)) new) (keep (λ q. not (q .held)) ps)
+      ∙ each-each (λ q. view x (map (λ m. entry m (q .cover)) new)) (λ q. one (not (q .held)) q) ps
+      ∙ through (λ q. each (λ a. view x (map (λ m. entry m (a .cover)) new)) (one (not (q .held)) q)) (λ b. cond b [] new)
+      (λ q. each-one (λ a. view x (map (λ m. entry m (a .cover)) new)) (not (q .held)) q
+      ∙ ap (λ (z : List Mark). cond (not (q .held)) z []) (under-view (q .cover) new)
+      ∙ go (q .held) (covers (q .cover) x)) ps c h v
+    where
+      go : (a b : Bool) → cond (not a) (cond b new []) [] ≡ cond b (cond a [] new) []
+      go true true = refl
+      go true false = refl
+      go false true = refl
+      go false false = refl
+
+  -- ---- the verdict
+
+  -- the entries to meet that cover the choice are the marks of other trains on the element
+  pub meets-hits : (e : Place) (k : ℕ) (rs : List Entry) → hits x (meets e k rs) ≡ count (λ m. not (eqb (m .train) k) && same (m .place) e) (view x rs)
+  unfolding meets view
+  meets-hits e k rs =
+      sum-each (λ q. tick (covers q x)) (λ r. one (other (r .mark)) (r .cover)) rs
+      ∙ sum-every (λ r. Unit) (λ r. sum (λ q. tick (covers q x)) (one (other (r .mark)) (r .cover))) (λ r. sum (λ m. tick (other m)) (one (covers (r .cover) x) (r .mark)))
+      (λ r u. sum-one (λ q. tick (covers q x)) (other (r .mark)) (r .cover) ∙ go (other (r .mark)) (covers (r .cover) x) ∙ sym (sum-one (λ m. tick (other m)) (covers (r .cover) x) (r .mark)))
+      rs (every-all (λ r. Unit) (λ r. tt) rs)
+      ∙ sym (sum-each (λ m. tick (other m)) (λ r. one (covers (r .cover) x) (r .mark)) rs)
+    where
+      other : Mark → Bool
+      other m = not (eqb (m .train) k) && same (m .place) e
+
+      go : (a b : Bool) → cond a (tick b) 0 ≡ cond b (tick a) 0
+      go true true = refl
+      go true false = refl
+      go false true = refl
+      go false false = refl
+
+  pub pieces-verdict : (C : Case) (e : Place) (rs : List Entry) (r : Entry) → Every (λ a. Fits x (a .cover)) rs → Fits x (r .cover)
+      → verdicts x (pieces C e rs r) ≡ one (covers (r .cover) x) (not (same e gone) && leb (capacity C e) (hits x (meets e (r .mark .train) rs)))
+  unfolding pieces verdicts
+  pieces-verdict C e rs r fs f = go (same e gone)
+    where
+      go : (b : Bool) → verdicts x (cond b (piece (r .cover) false ∷ []) (carry (capacity C e) (meets e (r .mark .train) rs) 0 (r .cover)))
+          ≡ one (covers (r .cover) x) (not b && leb (capacity C e) (hits x (meets e (r .mark .train) rs)))
+      go true = append-nil (one (covers (r .cover) x) false)
+      go false =
+          carry-law x (capacity C e) (meets e (r .mark .train) rs) (meets-covers (Fits x) e (r .mark .train) rs fs) 0 (r .cover) f
+          ∙ ap (λ (z : ℕ). one (covers (r .cover) x) (leb (capacity C e) z)) (omega arith)
+
+  -- the order that the view has makes the verdict the single run's
+  pub others-on : (C : Case) → Sound C → (t : ℕ) (e : Place) (m : Mark) → asks C t e m ≡ true → (b c v : List Mark) → Orderly C (b ++ (m ∷ c)) v
+      → count (λ a. not (eqb (a .train) (m .train)) && same (a .place) e) (b ++ (m ∷ c)) ≡ trainsOn C e (b ++ (m ∷ c))
+  others-on C sound t e m ask b c v o =
+      omega (arith, trainsOn-count C (b ++ (m ∷ c)) v o e, asker-none C sound t e m ask b c v o, split)
+    where
+      split : count (isOn e) (b ++ (m ∷ c)) ≡ count (λ a. not (eqb (a .train) (m .train)) && same (a .place) e) (b ++ (m ∷ c)) + count (isAt (m .train) e) (b ++ (m ∷ c))
+      split =
+          sum-every (λ a. Unit) (λ a. tick (isOn e a)) (λ a. tick (not (eqb (a .train) (m .train)) && same (a .place) e) + tick (isAt (m .train) e a))
+          (λ a u. go (eqb (a .train) (m .train)) (same (a .place) e)) (b ++ (m ∷ c)) (every-all (λ a. Unit) (λ a. tt) (b ++ (m ∷ c)))
+          ∙ sum-plus (λ a. tick (not (eqb (a .train) (m .train)) && same (a .place) e)) (λ a. tick (isAt (m .train) e a)) (b ++ (m ∷ c))
+        where
+          go : (y z : Bool) → tick z ≡ tick (not y && z) + tick (y && z)
+          go true z = omega arith
+          go false z = omega arith

@@ -1,0 +1,129 @@
+-- An accepted field breaks no rule: what a verdict of 0 says of each rule, and what an answer says of the steps before it.
+-- Each law is by cases on the first rule, the verdict or the result. Assumes nothing.
+use mathlib.Core.Path.{_≡_, refl, ap}
+use mathlib.Core.Bool.{Bool, true, false}
+use mathlib.Core.List.{List, [], _∷_}
+use Prim.Native.Nat.{ℕ, zero, suc, _+_, _-_, _≤_, _<_}
+use native.Mathlib.Omega.{arith}
+use lib.ListN.{length, drop, length-drop}
+use borrow.Author.Tests.{ltb-false, leb-false, not-false}
+use Rattle.rules.specs.Lists.{has}
+use Rattle.rules.specs.Refusals.{Fault, number, Rule, firstOf, verdict, Refusal, Result, then, unless}
+use Rattle.rules.specs.Refusals.Fault.{overrun, unknownTag, misplaced, wrongLength, wrongCount, outOfRange, wrongEnds, wrongPath, wrongTimes, wrongTable, noTable, noRoom, tooHeavy, tooShort, wrongChoice, noTrain, stopTooLate}
+use Rattle.rules.specs.Refusals.Result.{refused, answer}
+use Rattle.rules.specs.Files.{File, Contents, byte, known, inPlace, lengths, most, howMany, size, body, bodyRules, fieldRules, more}
+use Rattle.theory_lists.specs.Every.{Every}
+
+-- ---- refusals and answers
+
+pub refused-answer : {A : Type 0} (r : Refusal) (a : A) → refused r ≡ answer a → ⊥
+refused-answer r a e =
+    let z : _≡_ {A = ℕ} 0 1 = cc in
+    omega arith
+
+pub answer-answer : {A : Type 0} (a b : A) → answer a ≡ answer b → a ≡ b
+answer-answer a b e = cc
+
+pub then-answer : {A B : Type 0} (r : Result A) (go : A → Result B) (b : B) → then r go ≡ answer b
+    → (a : A) × (r ≡ answer a) × (go a ≡ answer b)
+then-answer (refused r) go b h = absurd (refused-answer r b h)
+then-answer (answer a) go b h = (a, refl, h)
+
+pub unless-answer : {A B : Type 0} (n f p : ℕ) (go : A → Result B) (a : A) (b : B) → unless n f p go a ≡ answer b
+    → (n ≡ 0) × (go a ≡ answer b)
+unless-answer zero f p go a b h = (refl, h)
+unless-answer (suc n) f p go a b h = absurd (refused-answer _ b h)
+
+pub refused-refused : {A : Type 0} (r s : Refusal) → _≡_ {A = Result A} (refused r) (refused s) → r ≡ s
+refused-refused r s e = cc
+
+-- a refusal is the verdict's, or comes from what goes on
+pub unless-refused : {A B : Type 0} (X : Type 0) (n f p : ℕ) (go : A → Result B) (a : A) (r : Refusal) → unless n f p go a ≡ refused r
+    → (n ≡ 0 → go a ≡ refused r → X) → (1 ≤ n → record { number = n; file = f; place = p } ≡ r → X) → X
+unless-refused X zero f p go a r h on off = on refl h
+unless-refused X (suc n) f p go a r h on off = off (omega arith) (refused-refused _ r h)
+
+-- a refusal is the first step's, or comes from the second
+pub then-refused : {A B : Type 0} (X : Type 0) (s : Result A) (go : A → Result B) (r : Refusal) → then s go ≡ refused r
+    → ((a : A) → s ≡ answer a → go a ≡ refused r → X) → (s ≡ refused r → X) → X
+then-refused X (refused q) go r h on off = off (ap refused (refused-refused q r h))
+then-refused X (answer a) go r h on off = on a refl h
+
+-- ---- rules
+
+some-number : (f : Fault) → 1 ≤ number f
+some-number overrun = omega arith
+some-number unknownTag = omega arith
+some-number misplaced = omega arith
+some-number wrongLength = omega arith
+some-number wrongCount = omega arith
+some-number outOfRange = omega arith
+some-number wrongEnds = omega arith
+some-number wrongPath = omega arith
+some-number wrongTimes = omega arith
+some-number wrongTable = omega arith
+some-number noTable = omega arith
+some-number noRoom = omega arith
+some-number tooHeavy = omega arith
+some-number tooShort = omega arith
+some-number wrongChoice = omega arith
+some-number noTrain = omega arith
+some-number stopTooLate = omega arith
+
+-- no rule is broken
+abbrev pub Unbroken : List Rule → Type 0
+Unbroken rs = Every (λ r. r .broken ≡ false) rs
+
+pub verdict-unbroken : (rs : List Rule) → verdict rs ≡ 0 → Unbroken rs
+verdict-unbroken [] h = tt
+verdict-unbroken (r ∷ rs) h = go (r .broken) h (verdict-unbroken rs)
+  where
+    go : (b : Bool) → firstOf b (number (r .fault)) (verdict rs) ≡ 0 → (verdict rs ≡ 0 → Unbroken rs) → (b ≡ false) × Unbroken rs
+    go true h i = absurd (omega (arith, some-number (r .fault)))
+    go false h i = (refl, i h)
+
+pub verdict-few : (n : ℕ) (rs : List Rule) → Every (λ r. number (r .fault) ≤ n) rs → verdict rs ≤ n
+verdict-few n [] e = omega arith
+verdict-few n (r ∷ rs) e = go (r .broken) (verdict-few n rs (e .1))
+  where
+    go : (b : Bool) → verdict rs ≤ n → firstOf b (number (r .fault)) (verdict rs) ≤ n
+    go true h = e .0
+    go false h = h
+
+-- ---- a field
+
+-- the offset past the field at the front of the bytes, and the bytes there
+abbrev pub past : ℕ → List ℕ → ℕ
+past at l = at + (3 + size l)
+
+abbrev pub rest : List ℕ → List ℕ
+rest l = drop (3 + size l) l
+
+pub length-rest : (l : List ℕ) → length (rest l) ≡ length l - (3 + size l)
+length-rest l = length-drop (3 + size l) l
+
+-- what the file holds with the field
+abbrev pub withField : Contents → ℕ → List ℕ → Contents
+withField c at l = more c at (byte l 0) (body l)
+
+-- what is known of an accepted field at offset `at`, where the bytes l stand
+pub record Field (f : File) (c : Contents) (at : ℕ) (l : List ℕ) : Type 0 where
+  pub a-tag : known (byte l 0) ≡ true
+  pub in-place : inPlace f c (byte l 0) ≡ true
+  pub a-length : has (lengths (byte l 0)) (size l) ≡ true
+  pub whole : 3 + size l ≤ length l
+  pub not-full : howMany c (byte l 0) < most (byte l 0)
+  pub unbroken : Unbroken (bodyRules c at (byte l 0) (body l))
+
+pub field-accepted : (f : File) (c : Contents) (at : ℕ) (l : List ℕ) → verdict (fieldRules f c at l) ≡ 0 → Field f c at l
+unfolding fieldRules
+field-accepted f c at l h =
+    let e = verdict-unbroken (fieldRules f c at l) h in
+    record {
+      a-tag = not-false (known (byte l 0)) (e .1 .0);
+      in-place = not-false (inPlace f c (byte l 0)) (e .1 .1 .0);
+      a-length = not-false (has (lengths (byte l 0)) (size l)) (e .1 .1 .1 .0);
+      whole = ltb-false (length l) (3 + size l) (e .1 .1 .1 .1 .0);
+      not-full = leb-false (most (byte l 0)) (howMany c (byte l 0)) (e .1 .1 .1 .1 .1 .0);
+      unbroken = e .1 .1 .1 .1 .1 .1;
+    }

@@ -1,0 +1,144 @@
+-- The lists of a run: the first one and the list after each asking item was served, in the order of serving; what the run has met is what the first of
+-- them that is refused is refused for. The definitions go step by step with the run, and so does the induction. Assumes nothing.
+use mathlib.Core.Path.{_≡_, refl, sym, ap, _∙_}
+use mathlib.Core.Bool.{Bool, true, false, not, cond}
+use mathlib.Core.List.{List, [], _∷_, _++_, map, map-append}
+use Prim.Native.Nat.{ℕ, zero, suc}
+use native.Mathlib.Omega.{arith}
+use lib.ListN.{length}
+use lib.Dec.{ltb}
+use borrow.Author.Tests.{lt-ltb}
+use Rattle.rules.specs.Lists.{keep, fold}
+use Rattle.rules.specs.Refusals.{firstOf}
+use Rattle.rules.specs.Files.{Case}
+use Rattle.rules.specs.Turns.{Place, State, state, Row, row, items, Turn, Rules, sooner, ended, asks, elements, before, next, serveOne, serveAll, visit, minute, minutes, runFrom}
+use Rattle.rules.specs.Turns.Turn.{nobody, somebody}
+use Rattle.theory_lists.specs.Items.{servedRows, servedList, items-served}
+
+-- ---- the definitions
+
+-- the first number that is not 0, if any
+abbrev pub firstMet : List ℕ → ℕ
+firstMet [] = 0
+firstMet (n ∷ l) = firstOf (ltb 0 n) n (firstMet l)
+
+module _ {A : Type 0} (C : Case) (R : Rules A) where
+  -- the rows after an asker was served
+  abbrev pub rowsAfter : ℕ → Place → List (Row A) → List (Row A) → A → List (Row A) → List (Row A)
+  rowsAfter t e rs b a c = servedRows (R .serve t e (items rs) a) b c
+
+  abbrev pub listsOne : ℕ → Place → (List (Row A) → List (List A)) → List (Row A) → Turn A → List (List A)
+  listsOne t e go rs nobody = []
+  listsOne t e go rs (somebody b a c) = items (rowsAfter t e rs b a c) ∷ go (rowsAfter t e rs b a c)
+
+  -- the list after each of the askers for e in minute t
+  unfoldable pub listsAll : ℕ → ℕ → Place → List (Row A) → List (List A)
+  listsAll zero t e rs = []
+  listsAll (suc k) t e rs = listsOne t e (listsAll k t e) rs (next C R rs)
+
+  unfoldable pub visitLists : ℕ → Place → State A → List (List A)
+  visitLists t e s = listsAll (length (s .list)) t e (map (λ a. row a (asks C t e (R .mark a))) (s .list))
+
+  abbrev pub visitsLists : ℕ → List Place → State A → List (List A)
+  visitsLists t [] s = []
+  visitsLists t (e ∷ es) s = visitLists t e s ++ visitsLists t es (visit C R t e s)
+
+  -- the list after each asker of minute t
+  unfoldable pub minuteLists : ℕ → State A → List (List A)
+  minuteLists t s = visitsLists t (elements C) (state (keep (λ a. not (ended t (R .mark a))) (s .list)) (s .arrived) (s .met))
+
+  -- the list after each asker of the first n minutes
+  unfoldable pub minutesLists : ℕ → State A → List (List A)
+  minutesLists zero s = []
+  minutesLists (suc n) s = minutesLists n s ++ minuteLists n (minutes C R n s)
+
+  -- the first list, and the list after each asker up to minute m
+  unfoldable pub runLists : List A → ℕ → List (List A)
+  runLists l m = l ∷ minutesLists (suc m) (state l [] (R .check l))
+
+-- ---- the asker
+
+-- the asker stands in its row
+abbrev pub Splits : {A : Type 0} → List (Row A) → Turn A → Type 0
+Splits rs nobody = Unit
+Splits rs (somebody b a c) = items rs ≡ items b ++ (a ∷ items c)
+
+module _ {A : Type 0} (C : Case) (R : Rules A) where
+  before-splits : (asking : Bool) (r : Row A) (rs : List (Row A)) (u : Turn A) → Splits rs u → Splits (r ∷ rs) (before C R asking r rs u)
+  before-splits false r rs nobody h = tt
+  before-splits false r rs (somebody b a c) h = ap (λ (l : List A). r .item ∷ l) h
+  before-splits true r rs nobody h = refl
+  before-splits true r rs (somebody b a c) h = go (sooner C (R .mark a) (R .mark (r .item)))
+    where
+      go : (t : Bool) → Splits (r ∷ rs) (cond t (somebody (r ∷ b) a c) (somebody [] (r .item) rs))
+      go true = ap (λ (l : List A). r .item ∷ l) h
+      go false = refl
+
+  pub next-splits : (rs : List (Row A)) → Splits rs (next C R rs)
+  unfolding next
+  next-splits [] = tt
+  next-splits (r ∷ rs) = before-splits (r .asking) r rs (next C R rs) (next-splits rs)
+
+  -- the list after an asker was served
+  pub items-after : (t : ℕ) (e : Place) (rs b : List (Row A)) (a : A) (c : List (Row A))
+      → items (rowsAfter C R t e rs b a c) ≡ servedList (R .serve t e (items rs) a) (items b) (items c)
+  items-after t e rs b a c = items-served (R .serve t e (items rs) a) b c
+
+-- ---- what is met
+
+-- what was met first, of three
+pub first-assoc : (n m k : ℕ) → firstOf (ltb 0 (firstOf (ltb 0 n) n m)) (firstOf (ltb 0 n) n m) k ≡ firstOf (ltb 0 n) n (firstOf (ltb 0 m) m k)
+first-assoc n m k = go (ltb 0 n) refl
+  where
+    go : (b : Bool) → ltb 0 n ≡ b → firstOf (ltb 0 (firstOf b n m)) (firstOf b n m) k ≡ firstOf b n (firstOf (ltb 0 m) m k)
+    go true e = ap (λ (c : Bool). firstOf c n k) e
+    go false e = refl
+
+pub first-none : (n : ℕ) → firstOf (ltb 0 n) n 0 ≡ n
+first-none zero = refl
+first-none (suc n) = ap (λ (c : Bool). firstOf c (suc n) 0) (lt-ltb 0 (suc n) (omega arith))
+
+firstMet-append : (s t : List ℕ) → firstMet (s ++ t) ≡ firstOf (ltb 0 (firstMet s)) (firstMet s) (firstMet t)
+firstMet-append [] t = refl
+firstMet-append (n ∷ s) t = ap (firstOf (ltb 0 n) n) (firstMet-append s t) ∙ sym (first-assoc n (firstMet s) (firstMet t))
+
+module _ {A : Type 0} (C : Case) (R : Rules A) where
+  -- the lists add to what was met before what they are refused for
+  abbrev Adds : ℕ → List (List A) → ℕ → Type 0
+  Adds n ls m = m ≡ firstOf (ltb 0 n) n (firstMet (map (R .check) ls))
+
+  adds-none : (n : ℕ) → Adds n [] n
+  adds-none n = sym (first-none n)
+
+  adds-then : (n m k : ℕ) (s t : List (List A)) → Adds n s m → Adds m t k → Adds n (s ++ t) k
+  adds-then n m k s t h g =
+      g
+      ∙ ap (λ (i : ℕ). firstOf (ltb 0 i) i (firstMet (map (R .check) t))) h
+      ∙ first-assoc n (firstMet (map (R .check) s)) (firstMet (map (R .check) t))
+      ∙ ap (firstOf (ltb 0 n) n) (sym (ap firstMet (map-append (R .check) s t) ∙ firstMet-append (map (R .check) s) (map (R .check) t)))
+
+  serveAll-met : (k t : ℕ) (e : Place) (rs : List (Row A)) (v : List A) (n : ℕ) → Adds n (listsAll C R k t e rs) (serveAll C R k t e rs v n .met)
+  unfolding serveAll listsAll
+  serveAll-met zero t e rs v n = adds-none n
+  serveAll-met (suc k) t e rs v n = go (next C R rs) (serveAll-met k t e)
+    where
+      go : (u : Turn A) → ((rs : List (Row A)) (v : List A) (n : ℕ) → Adds n (listsAll C R k t e rs) (serveAll C R k t e rs v n .met))
+          → Adds n (listsOne C R t e (listsAll C R k t e) rs u) (serveOne C R t e (serveAll C R k t e) rs v n u .met)
+      go nobody ih = adds-none n
+      go (somebody b a c) ih = ih (rowsAfter C R t e rs b a c) _ _ ∙ first-assoc n (R .check (items (rowsAfter C R t e rs b a c))) _
+
+  visits-met : (t : ℕ) (es : List Place) (s : State A) → Adds (s .met) (visitsLists C R t es s) (fold (visit C R t) es s .met)
+  unfolding visitLists visit
+  visits-met t [] s = adds-none (s .met)
+  visits-met t (e ∷ es) s =
+      adds-then (s .met) _ _ (visitLists C R t e s) (visitsLists C R t es (visit C R t e s)) (serveAll-met _ t e _ (s .arrived) (s .met)) (visits-met t es (visit C R t e s))
+
+  minutes-met : (n : ℕ) (s : State A) → Adds (s .met) (minutesLists C R n s) (minutes C R n s .met)
+  unfolding minutes minutesLists minute minuteLists
+  minutes-met zero s = adds-none (s .met)
+  minutes-met (suc n) s = adds-then (s .met) _ _ (minutesLists C R n s) (minuteLists C R n (minutes C R n s)) (minutes-met n s) (visits-met n (elements C) _)
+
+  -- what a run has met is what the first refused of its lists is refused for
+  pub run-met : (l : List A) (m : ℕ) → runFrom C R l m .met ≡ firstMet (map (R .check) (runLists C R l m))
+  unfolding runFrom runLists
+  run-met l m = minutes-met (suc m) (state l [] (R .check l))
