@@ -267,5 +267,5 @@ give-at-spec 𝓤 H 𝓜 𝓖 𝓡 =
     entered 𝓤 H (tripleOf 𝓤 H (𝓖 .A) given.signature (given.spec 𝓤 H (𝓖 .A) (𝓜 .mem) (𝓡 .run)))
     (tables 𝓤 H 𝓜 𝓡 code.env .C) (tables 𝓤 H 𝓜 𝓡 code.env .Λ) #viewer·give-at code.function (code.unfolded 𝓤 H 𝓜 𝓡)
     (give-at-meets 𝓤 H (𝓖 .A) (givenOf 𝓤 H 𝓜 𝓖) (𝓜 .mem) (𝓡 .run) (tablesOf 𝓤 H 𝓜 (tables 𝓤 H 𝓜 𝓡 code.env))
-    (cited 𝓤 H (At 𝓤 H (𝓖 .A) (𝓜 .mem) (𝓡 .run)) 𝓜 𝓡 code.env #viewer·at at-def.routine code.calls-viewer·at (at-thm.met 𝓤 H 𝓜 𝓖 𝓡))
-    (cited 𝓤 H (Give 𝓤 H (𝓖 .A) (𝓜 .mem) (𝓡 .run)) 𝓜 𝓡 code.env #viewer·give give-def.routine code.calls-viewer·give (give-thm.met 𝓤 H 𝓜 𝓖 𝓡)))
+    (cited 𝓤 H (At 𝓤 H (𝓖 .A) (𝓜 .mem) (𝓡 .run)) 𝓜 𝓡 code.env #viewer·at at-def.routine code.calls-file-viewer·at (at-thm.met 𝓤 H 𝓜 𝓖 𝓡))
+    (cited 𝓤 H (Give 𝓤 H (𝓖 .A) (𝓜 .mem) (𝓡 .run)) 𝓜 𝓡 code.env #viewer·give give-def.routine code.calls-file-viewer·give (give-thm.met 𝓤 H 𝓜 𝓖 𝓡)))
