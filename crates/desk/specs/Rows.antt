@@ -14,7 +14,6 @@ use Rattle.rules.specs.Joint.{Entry, firstList, joint}
 use Rattle.theory_sound.specs.Facts.{Sound}
 use Rattle.theory_lists.specs.Every.{Every, every-more}
 use Rattle.theory_simulation.specs.Simulation.{joint-proper}
-use Rattle.theory_trace.specs.Longest.{passes}
 use Rattle.theory_weights.specs.Room.{met-minutes, list-fits}
 use Rattle.theory_passes.specs.Joint.{joint-passes}
 use Rattle.theory_passes.specs.Bounds.{ByteDelays, Bounded, bounded-train, joint-bounded}
@@ -28,6 +27,7 @@ use Rattle.entries.specs.Encoded as encoded
 use Rattle.entries.specs.Answer as joints
 use Rattle.out_images.specs.Rows.{rowOf, SmallEntry}
 use Rattle.rules.specs.Refusals.Result.{answer}
+use Rattle.rules.specs.Demands.{passes}
 use Rattle.theory_sound.specs.Accepted.{accepted-sound}
 use Rattle.theory_codes.specs.Tables.{tables}
 use Rattle.file_lookup.specs.declared.Sizes.{Sizes}

@@ -7,4 +7,5 @@ pub mod Joint
 pub mod Listing
 pub mod Figures
 pub mod Calls
+pub mod Demands
 pub mod Points

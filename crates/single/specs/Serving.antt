@@ -15,9 +15,10 @@ use Rattle.rules.specs.Files.{Case}
 use Rattle.rules.specs.Turns.{Place, same, Mark, stands, block, lastStation, asks, dueAgain, leaving, entered, State}
 use Rattle.rules.specs.Turns.Place.{outside}
 use Rattle.rules.specs.Single.{minuteOf}
+use Rattle.rules.specs.Demands.{isAt}
 use Rattle.theory_sound.specs.Facts.{Sound}
 use Rattle.theory_sound.specs.Ways.{same-self}
-use Rattle.theory_simulation.specs.Orderly.{isAt, at-once}
+use Rattle.theory_simulation.specs.Orderly.{at-once}
 use Rattle.theory_codes.specs.Codes.{placeOf}
 use Rattle.theory_codes.specs.Tables.{stayOn, tables}
 use Rattle.theory_passes.specs.Passes.{admits, passTrain}

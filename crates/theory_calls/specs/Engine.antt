@@ -8,9 +8,7 @@ use Rattle.rules.specs.Lists.{keep, sum}
 use Rattle.rules.specs.Refusals.Result.{answer}
 use Rattle.rules.specs.Files.{Case, files}
 use Rattle.rules.specs.Joint.{choices, weightOf, joint}
-use Rattle.theory_simulation.specs.View.{Choice}
-use Rattle.theory_simulation.specs.Simulation.{Simulates}
-use Rattle.theory_weights.specs.Arrivals.{arrivesIn}
+use Rattle.rules.specs.Demands.{Choice, Simulates, arrivesIn}
 use Rattle.theory_demands.specs.Demands.{demand-3, demand-2}
 use Rattle.rows.specs.Rows.{words}
 use Rattle.entries.specs.Encoded.{rowOf}

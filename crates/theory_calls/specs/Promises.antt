@@ -14,13 +14,9 @@ use Rattle.rules.specs.Joint.{choices, weightOf, Entry, firstList, jointRules, 
 use Rattle.rules.specs.Listing.{notArrived}
 use Rattle.rules.specs.Calls.{Run, runTo, stoppedRun, wholeRun, trainRun, Memory, textBytes, textOf, short, Lent, call, runCall, listingCall, figuresCall}
 use Rattle.rules.specs.Figures.{figures}
+use Rattle.rules.specs.Demands.{Choice, Simulates, arrivesIn, arrivesNever, runLists, passes}
 use Rattle.theory_sound.specs.Accepted.{accepted-sound}
 use Rattle.theory_sound.specs.Window.{files-window}
-use Rattle.theory_simulation.specs.View.{Choice}
-use Rattle.theory_simulation.specs.Simulation.{Simulates}
-use Rattle.theory_weights.specs.Arrivals.{arrivesIn, arrivesNever}
-use Rattle.theory_trace.specs.Trace.{runLists}
-use Rattle.theory_trace.specs.Longest.{passes}
 use Rattle.theory_weights.specs.Room.{list-fits}
 use Rattle.theory_demands.specs.Demands.{demand-3, demand-2, demand-2-later, demand-2-not-arrived, room-askers}
 use Rattle.theory_sound.specs.Runs.{Answered, stopped-answer, whole-answer, train-answer}

@@ -9,16 +9,14 @@ use Rattle.rules.specs.Refusals.Result.{answer}
 use Rattle.rules.specs.Files.{Case, files}
 use Rattle.rules.specs.Joint.{covers, choices, weightOf, weight, total, firstList, jointRules, joint, weightAt}
 use Rattle.rules.specs.Listing.{notArrived}
+use Rattle.rules.specs.Demands.{Choice, Simulates, arrivesIn, arrivesNever, runLists, passes}
 use Rattle.theory_sound.specs.Facts.{Sound}
 use Rattle.theory_sound.specs.Accepted.{accepted-sound}
 use Rattle.theory_lists.specs.Every.{Every, every-more}
-use Rattle.theory_simulation.specs.View.{Choice}
 use Rattle.theory_simulation.specs.Serving.{Proper}
-use Rattle.theory_simulation.specs.Simulation.{Sets, joint-proper, joint-sets, Simulates, simulation}
+use Rattle.theory_simulation.specs.Simulation.{Sets, joint-proper, joint-sets, simulation}
 use Rattle.theory_weights.specs.Choices.{weight-covers, weight-all}
-use Rattle.theory_weights.specs.Arrivals.{arrivesIn, arrivesNever, Seen, joint-seen, arrived-weight, arrived-later, notArrived-weight}
-use Rattle.theory_trace.specs.Trace.{runLists}
-use Rattle.theory_trace.specs.Longest.{passes}
+use Rattle.theory_weights.specs.Arrivals.{Seen, joint-seen, arrived-weight, arrived-later, notArrived-weight}
 use Rattle.theory_weights.specs.Room.{met-askers, met-minutes}
 
 module _ (cs bk : List ℕ) (C : Case) (accepted : files cs bk ≡ answer C) where

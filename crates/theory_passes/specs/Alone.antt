@@ -15,11 +15,12 @@ use Rattle.rules.specs.Files.{Case}
 use Rattle.rules.specs.Turns.{Place, same, Mark, capacity, entered, arriving, Served, served, State, state}
 use Rattle.rules.specs.Turns.Place.{gone}
 use Rattle.rules.specs.Single.{enters, serveTrain, singleRules}
+use Rattle.rules.specs.Demands.{isStanding}
 use Rattle.theory_lists.specs.Each.{each-append}
 use Rattle.theory_lists.specs.Every.{Every, every-all, every-more}
 use Rattle.theory_lists.specs.Sums.{sum-less, sum-zero}
 use Rattle.theory_simulation.specs.Places.{asked}
-use Rattle.theory_simulation.specs.Orderly.{isStanding, Orderly, trainsOn-count}
+use Rattle.theory_simulation.specs.Orderly.{Orderly, trainsOn-count}
 use Rattle.theory_trace.specs.Trace.{first-none}
 use Rattle.theory_lists.specs.Kept.{keep-none, keep-others, One, AtMostOne, at-most-one}
 use Rattle.theory_lists.specs.Kept.AtMostOne.{none, single}

@@ -13,12 +13,13 @@ use Rattle.rules.specs.Refusals.{firstOf}
 use Rattle.rules.specs.Files.{Case}
 use Rattle.rules.specs.Turns.{Place, ended, State, state}
 use Rattle.rules.specs.Joint.{Entry, firstList, checkList, jointRules, joint}
+use Rattle.rules.specs.Demands.{passes}
 use Rattle.theory_sound.specs.Facts.{Sound}
 use Rattle.theory_lists.specs.Every.{Every, every-keep}
 use Rattle.theory_lists.specs.Sums.{count-le, length-keep}
 use Rattle.theory_simulation.specs.Serving.{Proper, serve-proper}
 use Rattle.theory_simulation.specs.Start.{first-proper}
-use Rattle.theory_trace.specs.Longest.{passes, serveEntry-grows}
+use Rattle.theory_trace.specs.Longest.{serveEntry-grows}
 use Rattle.theory_weights.specs.Room.{checkList-room}
 use Rattle.theory_passes.specs.Passes.{asksFor, passList, pass, cleared, jointPasses}
 use Rattle.theory_passes.specs.Walk.{met-within, walk, walkAll, walk-keeps, walk-nobody, walk-met}

@@ -11,10 +11,11 @@ use borrow.Author.Tests.{eqb-true, ltb-true, ltb-false, lt-ltb, le-ltb}
 use Rattle.rules.specs.Refusals.{firstOf}
 use Rattle.rules.specs.Files.{Case}
 use Rattle.rules.specs.Turns.{Place, Mark, asks, Served, State, state, Rules}
+use Rattle.rules.specs.Demands.{passes}
 use Rattle.theory_lists.specs.Every.{Every}
 use Rattle.theory_lists.specs.Items.{servedList}
 use Rattle.theory_lists.specs.Tests.{and-true-first}
-use Rattle.theory_trace.specs.Longest.{passes, Grows}
+use Rattle.theory_trace.specs.Longest.{Grows}
 use Rattle.theory_trace.specs.Trace.{first-assoc}
 use Rattle.theory_passes.specs.Passes.{asksFor}
 

@@ -12,11 +12,11 @@ use Rattle.rules.specs.Lists.{any, below, has}
 use Rattle.rules.specs.Files.{Case}
 use Rattle.rules.specs.Joint.{whole}
 use Rattle.rules.specs.Calls.{choiceBroken}
+use Rattle.rules.specs.Demands.{Choice}
 use Rattle.theory_sound.specs.Facts.{Sound}
 use Rattle.theory_lists.specs.Every.{none-any}
 use Rattle.theory_lists.specs.Below.{below-at, has-below}
 use Rattle.theory_simulation.specs.Covers.{covers-by}
-use Rattle.theory_simulation.specs.View.{Choice}
 use Rattle.theory_simulation.specs.Start.{whole-at, whole-length}
 
 -- ---- the choices accepted

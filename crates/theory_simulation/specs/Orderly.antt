@@ -1,7 +1,7 @@
 -- What the single run keeps: each train stands once, no train is twice on an element, no element is over its capacity, each train arrives at most once.
 -- Each is a sum over the marks, and what a train has ahead of it counts as much there as what it is on. Assumes nothing.
 use mathlib.Core.Path.{_≡_, refl, sym, ap, _∙_}
-use mathlib.Core.Bool.{Bool, false, not, _&&_}
+use mathlib.Core.Bool.{Bool, false, _&&_}
 use mathlib.Core.List.{List}
 use Prim.Native.Nat.{ℕ, _+_, _≤_, _<_}
 use native.Mathlib.Nat.{le-trans}
@@ -14,6 +14,7 @@ use Rattle.rules.specs.Files.{Case}
 use Rattle.rules.specs.Turns.{Place, same, Mark, ahead, lastStation, capacity}
 use Rattle.rules.specs.Turns.Place.{outside, gone}
 use Rattle.rules.specs.Single.{trainsOn}
+use Rattle.rules.specs.Demands.{isStanding, isAt}
 use Rattle.theory_lists.specs.Every.{Every, every-all}
 use Rattle.theory_lists.specs.Sums.{sum-every, sum-less, sum-swap, count-any}
 use Rattle.theory_lists.specs.Below.{sum-below-in}
@@ -23,14 +24,6 @@ use Rattle.theory_lists.specs.Below.{sum-below-in}
 -- the mark is on the place
 abbrev pub isOn : Place → Mark → Bool
 isOn p m = same (m .place) p
-
--- it is the train's, and on the place
-abbrev pub isAt : ℕ → Place → Mark → Bool
-isAt j p m = eqb (m .train) j && same (m .place) p
-
--- the train stands
-abbrev pub isStanding : ℕ → Mark → Bool
-isStanding j m = eqb (m .train) j && not (m .blocks)
 
 -- how much of its way a train has ahead of it at a place
 abbrev pub toGo : Case → ℕ → Place → ℕ

@@ -15,6 +15,7 @@ use Rattle.rules.specs.Turns.{Place, Mark, elements, ended, asks, sooner, Serve
 use Rattle.rules.specs.Turns.Turn.{nobody, somebody}
 use Rattle.rules.specs.Single.{serveTrain, singleRules}
 use Rattle.rules.specs.Joint.{covers, Entry, serveEntry, jointRules}
+use Rattle.rules.specs.Demands.{Choice, view}
 use Rattle.theory_sound.specs.Facts.{Sound}
 use Rattle.theory_lists.specs.Every.{Every, every-right, every-keep}
 use Rattle.theory_lists.specs.Sums.{sum-append, count-le, count-none}
@@ -23,7 +24,7 @@ use Rattle.theory_lists.specs.Items.{items-start, servedRows, servedList, items
 use Rattle.theory_simulation.specs.Keeping.{asking-start, served-asking}
 use Rattle.theory_simulation.specs.Orderly.{Orderly}
 use Rattle.theory_simulation.specs.Steps.{serve-orderly, end-orderly}
-use Rattle.theory_simulation.specs.View.{Choice, view, viewRows, viewServed, view-append, viewRows-append, viewRows-cons, viewRows-start, items-view, viewRows-asking, viewRows-none, view-end}
+use Rattle.theory_simulation.specs.View.{viewRows, viewServed, view-append, viewRows-append, viewRows-cons, viewRows-start, items-view, viewRows-asking, viewRows-none, view-end}
 use Rattle.theory_simulation.specs.Serving.{Proper, serve-proper, serve-view, viewRows-served}
 
 -- ---- how many rows ask

@@ -12,6 +12,7 @@ use Rattle.rules.specs.Turns.{Place, same, Mark, capacity, asks, entered, arriv
 use Rattle.rules.specs.Turns.Place.{gone}
 use Rattle.rules.specs.Single.{trainsOn, enters, serveTrain}
 use Rattle.rules.specs.Joint.{Cover, covers, whole, Entry, entry, Piece, piece, carry, meets, pieces, serveEntry}
+use Rattle.rules.specs.Demands.{Choice, view}
 use Rattle.theory_sound.specs.Facts.{Sound}
 use Rattle.theory_lists.specs.Every.{Every, every-append, every-left, every-right, every-map, every-each, every-keep, every-all, every-more}
 use Rattle.theory_simulation.specs.Covers.{Fits, covers-length}
@@ -19,7 +20,7 @@ use Rattle.theory_simulation.specs.Cutting.{verdicts, hits}
 use Rattle.theory_simulation.specs.Parts.{Parts, parts-length, carry-parts}
 use Rattle.theory_lists.specs.Items.{servedRows, servedList}
 use Rattle.theory_simulation.specs.Orderly.{Orderly}
-use Rattle.theory_simulation.specs.View.{Choice, view, viewRows, viewServed, meets-covers, view-append, view-cons, viewRows-append, viewRows-quiet, held-view, entering-view, meets-hits, pieces-verdict, others-on}
+use Rattle.theory_simulation.specs.View.{viewRows, viewServed, meets-covers, view-append, view-cons, viewRows-append, viewRows-quiet, held-view, entering-view, meets-hits, pieces-verdict, others-on}
 
 -- ---- proper covers
 

@@ -2,7 +2,7 @@
 -- Both runs start alike and go on alike, turn by turn (`run-twin`), and the sums of `Orderly` say the rest. Takes `Sound` as given, and assumes nothing else.
 use mathlib.Core.Path.{_≡_, refl, sym, ap, _∙_, subst}
 use mathlib.Core.Bool.{Bool, true, false, not, _&&_}
-use mathlib.Core.List.{List, [], _∷_, _++_, map}
+use mathlib.Core.List.{List, [], map}
 use Prim.Native.Nat.{ℕ, _≤_, _<_}
 use native.Mathlib.Nat.{le-trans, le-of-eq, le-refl}
 use native.Mathlib.Omega.{arith}
@@ -14,14 +14,15 @@ use Rattle.rules.specs.Turns.{Place, same, Mark, elements, capacity, ended, Sta
 use Rattle.rules.specs.Turns.Place.{outside, station, track, gone}
 use Rattle.rules.specs.Single.{firstMarks, trainsOn, single}
 use Rattle.rules.specs.Joint.{Cover, isEmpty, covers, whole, Entry, firstList, jointRules, joint}
+use Rattle.rules.specs.Demands.{Choice, view, isAt, isStanding, Simulates}
 use Rattle.theory_sound.specs.Facts.{Sound}
-use Rattle.theory_lists.specs.Every.{Every, every-append, every-map, every-more, every-keep, every-all}
+use Rattle.theory_lists.specs.Every.{Every, every-more, every-keep, every-all}
 use Rattle.theory_lists.specs.Sums.{length-keep, length-one}
 use Rattle.theory_lists.specs.Below.{below-has, below-once}
 use Rattle.theory_simulation.specs.Keeping.{run-keeps}
-use Rattle.theory_simulation.specs.Orderly.{isAt, isStanding, Orderly, at-once, trainsOn-count, arrived-once}
+use Rattle.theory_simulation.specs.Orderly.{Orderly, at-once, trainsOn-count, arrived-once}
 use Rattle.theory_simulation.specs.Parts.{Part, parts-length, parts-at, part-within, part-once}
-use Rattle.theory_simulation.specs.View.{Choice, view, view-keep}
+use Rattle.theory_simulation.specs.View.{view-keep}
 use Rattle.theory_simulation.specs.Serving.{Proper, serve-proper}
 use Rattle.theory_simulation.specs.Start.{whole-at, whole-length, first-proper, first-view, first-orderly}
 use Rattle.theory_simulation.specs.Runs.{Twin, run-twin}
@@ -75,32 +76,18 @@ joint-twin C sound x ch m = run-twin C sound x ch (firstList C) (firstMarks C x)
 
 -- ---- the single run is in order
 
--- the elements are places inside
-elements-inside : (C : Case) → Every (λ e. same e outside ≡ false) (elements C)
-unfolding elements same
-elements-inside C =
-    every-append inside (map station (below (length (C .stations))) ++ map track (below (length (C .tracks)))) (gone ∷ [])
-    (every-append inside (map station (below (length (C .stations)))) (map track (below (length (C .tracks))))
-    (every-map (λ i. Unit) inside station (λ i u. refl) (below (length (C .stations))) (every-all (λ i. Unit) (λ i. tt) (below (length (C .stations)))))
-    (every-map (λ j. Unit) inside track (λ j u. refl) (below (length (C .tracks))) (every-all (λ j. Unit) (λ j. tt) (below (length (C .tracks))))))
-    (refl, tt)
-  where
-    inside : Place → Type 0
-    inside e = same e outside ≡ false
-
 -- each train stands once and is at most once on a place, standing or blocking; no element but the way out is over its capacity; each train arrives at most once
 pub record Kept (C : Case) (s : State Mark) : Type 0 where
   pub stands-once : (k : ℕ) → k < length (C .trains) → count (isStanding k) (s .list) ≡ 1
   pub on-once : (k : ℕ) (p : Place) → count (isAt k p) (s .list) ≤ 1
-  pub within : Every (λ e. same e gone ≡ false → trainsOn C e (s .list) ≤ capacity C e) (elements C)
+  pub within : (e : Place) → same e outside ≡ false → same e gone ≡ false → trainsOn C e (s .list) ≤ capacity C e
   pub arrives-once : (k : ℕ) → count (λ v. eqb (v .train) k) (s .arrived) ≤ 1
 
 orderly-kept : (C : Case) (s : State Mark) → Orderly C (s .list) (s .arrived) → Kept C s
 orderly-kept C s o = record {
   stands-once = o .stands-once;
   on-once = at-once C (s .list) (s .arrived) o;
-  within = every-more (λ e. same e outside ≡ false) (λ e. same e gone ≡ false → trainsOn C e (s .list) ≤ capacity C e)
-      (λ e out way. le-trans (le-of-eq (trainsOn-count C (s .list) (s .arrived) o e)) (o .within e out way)) (elements C) (elements-inside C);
+  within = λ e out way. le-trans (le-of-eq (trainsOn-count C (s .list) (s .arrived) o e)) (o .within e out way);
   arrives-once = arrived-once C (s .list) (s .arrived) o;
 }
 
@@ -108,20 +95,6 @@ pub single-kept : (C : Case) → Sound C → (x : List ℕ) → Choice C x → (
 single-kept C sound x ch m = orderly-kept C (single C x m) (joint-twin C sound x ch m .orderly)
 
 -- ---- demand 3
-
-pub record Simulates (C : Case) (x : List ℕ) (m : ℕ) : Type 0 where
-  -- the marks that the choice sees are those of its single run, in list order, and so are the arrivals
-  pub list : view x (joint C m .list) ≡ single C x m .list
-  pub arrived : view x (joint C m .arrived) ≡ single C x m .arrived
-  -- each train has exactly one standing entry that covers the choice, and its place and due minute are those of the single run
-  pub standing : (k : ℕ) → k < length (C .trains)
-      → (r : Entry) × (keep (λ a. covers (a .cover) x && isStanding k (a .mark)) (joint C m .list) ≡ r ∷ []) × (keep (isStanding k) (single C x m .list) ≡ r .mark ∷ [])
-  -- the blocks that cover the choice are exactly those of the single run
-  pub blocks : map (λ r. r .mark) (keep (λ r. covers (r .cover) x && r .mark .blocks) (joint C m .list)) ≡ keep (λ a. a .blocks) (single C x m .list)
-  -- none twice: of the entries that cover the choice at most one is a train's on a place, standing or blocking
-  pub once : (k : ℕ) (p : Place) → length (keep (λ r. covers (r .cover) x && isAt k p (r .mark)) (joint C m .list)) ≤ 1
-  -- no station and no track holds more trains, standing or blocking, than its capacity
-  pub within : Every (λ e. same e gone ≡ false → trainsOn C e (view x (joint C m .list)) ≤ capacity C e) (elements C)
 
 -- the entries of a kind that cover the choice are as many as the marks of that kind in the single run
 pub covering-length : (C : Case) → Sound C → (x : List ℕ) → Choice C x → (m : ℕ) (test : Mark → Bool)
@@ -132,6 +105,7 @@ covering-length C sound x ch m test =
     ∙ length-keep test (single C x m .list)
 
 pub simulation : (C : Case) → Sound C → (x : List ℕ) → Choice C x → (m : ℕ) → Simulates C x m
+unfolding same
 simulation C sound x ch m = record {
   list = twin .list;
   arrived = twin .arrived;
@@ -140,7 +114,8 @@ simulation C sound x ch m = record {
       (one .0, one .1, ap (keep (isStanding k)) (sym (twin .list)) ∙ sym (view-keep x (isStanding k) (joint C m .list)) ∙ ap (map (λ r. r .mark)) (one .1));
   blocks = view-keep x (λ a. a .blocks) (joint C m .list) ∙ ap (keep (λ a. a .blocks)) (twin .list);
   once = λ k p. le-trans (le-of-eq (covering-length C sound x ch m (isAt k p))) (kept .on-once k p);
-  within = subst (λ (l : List Mark). Every (λ e. same e gone ≡ false → trainsOn C e l ≤ capacity C e) (elements C)) (sym (twin .list)) (kept .within);
+  stations = λ i. within (station i) refl refl;
+  tracks = λ j. within (track j) refl refl;
 }
   where
     twin : Twin C x (joint C m) (single C x m)
@@ -148,3 +123,6 @@ simulation C sound x ch m = record {
 
     kept : Kept C (single C x m)
     kept = single-kept C sound x ch m
+
+    within : (e : Place) → same e outside ≡ false → same e gone ≡ false → trainsOn C e (view x (joint C m .list)) ≤ capacity C e
+    within e out way = subst (λ (l : List Mark). trainsOn C e l ≤ capacity C e) (sym (twin .list)) (kept .within e out way)

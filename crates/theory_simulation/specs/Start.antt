@@ -15,6 +15,7 @@ use Rattle.rules.specs.Turns.{Place, same, Mark, lastStation}
 use Rattle.rules.specs.Turns.Place.{outside}
 use Rattle.rules.specs.Single.{waits, firstMarks}
 use Rattle.rules.specs.Joint.{isEmpty, covers, whole, entry, firstList}
+use Rattle.rules.specs.Demands.{Choice, view, isStanding}
 use Rattle.theory_sound.specs.Facts.{Sound}
 use Rattle.theory_lists.specs.Each.{each-map, each-each, each-self, each-alone}
 use Rattle.theory_lists.specs.Every.{each-every, Every, every-map, every-each, every-all}
@@ -23,8 +24,7 @@ use Rattle.theory_lists.specs.Below.{each-below-in, has-below, below-has, every
 use Rattle.theory_simulation.specs.Covers.{covers-at, covers-set}
 use Rattle.theory_simulation.specs.Parts.{Part, Parts, parts-set}
 use Rattle.theory_sound.specs.Ways.{same-true, same-self}
-use Rattle.theory_simulation.specs.Orderly.{isOn, isStanding, toGo, isBefore, reach, Orderly}
-use Rattle.theory_simulation.specs.View.{Choice, view}
+use Rattle.theory_simulation.specs.Orderly.{isOn, toGo, isBefore, reach, Orderly}
 use Rattle.theory_simulation.specs.Serving.{Proper}
 
 -- ---- the whole set of a train

@@ -14,13 +14,14 @@ use Rattle.rules.specs.Files.{Case}
 use Rattle.rules.specs.Turns.{Place, same, Mark, stands, block, lastStation, capacity, ended, asks, dueAgain, leaving, entered, arriving, served}
 use Rattle.rules.specs.Turns.Place.{outside, gone}
 use Rattle.rules.specs.Single.{trainsOn, enters, serveTrain}
+use Rattle.rules.specs.Demands.{isAt, isStanding}
 use Rattle.theory_sound.specs.Facts.{Sound}
 use Rattle.theory_lists.specs.Every.{Every, every-append, every-left, every-right, every-one, every-keep, every-all}
 use Rattle.theory_lists.specs.Sums.{tick-le, sum-append, sum-each, sum-every, sum-less, sum-one-le, sum-keep-le}
 use Rattle.theory_lists.specs.Items.{servedList}
 use Rattle.theory_sound.specs.Ways.{same-true}
 use Rattle.theory_simulation.specs.Places.{asked}
-use Rattle.theory_simulation.specs.Orderly.{isOn, isAt, isStanding, toGo, isBefore, reach, Orderly, trainsOn-count}
+use Rattle.theory_simulation.specs.Orderly.{isOn, toGo, isBefore, reach, Orderly, trainsOn-count}
 
 -- ---- a sum after a step
 

@@ -11,7 +11,8 @@ use Rattle.rules.specs.Files.{Case}
 use Rattle.rules.specs.Turns.{Place, same, Mark, capacity, asks, ended, Served, served, Row, row, items, quiet}
 use Rattle.rules.specs.Turns.Place.{gone}
 use Rattle.rules.specs.Single.{trainsOn, singleRules}
-use Rattle.rules.specs.Joint.{Cover, covers, whole, Entry, entry, Piece, piece, carry, meets, pieces, jointRules}
+use Rattle.rules.specs.Joint.{Cover, covers, Entry, entry, Piece, piece, carry, meets, pieces, jointRules}
+use Rattle.rules.specs.Demands.{isAt, view}
 use Rattle.theory_sound.specs.Facts.{Sound}
 use Rattle.theory_lists.specs.Each.{each-append, each-map, each-each, each-same, each-none, each-self, each-one}
 use Rattle.theory_lists.specs.Every.{Every, every-each, every-one, every-all}
@@ -19,18 +20,10 @@ use Rattle.theory_lists.specs.Sums.{sum-each, sum-every, sum-one, sum-plus}
 use Rattle.theory_simulation.specs.Covers.{Fits}
 use Rattle.theory_simulation.specs.Cutting.{verdicts, hits, carry-law}
 use Rattle.theory_simulation.specs.Askers.{Asking}
-use Rattle.theory_simulation.specs.Orderly.{isOn, isAt, Orderly, trainsOn-count}
+use Rattle.theory_simulation.specs.Orderly.{isOn, Orderly, trainsOn-count}
 use Rattle.theory_simulation.specs.Steps.{asker-none}
 
 -- ---- the definitions
-
--- one delay of each train's table
-abbrev pub Choice : Case → List ℕ → Type 0
-Choice C x = covers (whole C) x ≡ true
-
--- the marks of the entries that cover the choice
-unfoldable pub view : List ℕ → List Entry → List Mark
-view x rs = each (λ r. one (covers (r .cover) x) (r .mark)) rs
 
 -- the same of rows, which ask or do not
 unfoldable pub viewRows : List ℕ → List (Row Entry) → List (Row Mark)

@@ -7,7 +7,6 @@ use Prim.Native.Nat.{ℕ, zero, suc, _+_, _≤_}
 use native.Mathlib.Nat.{le-trans, le-of-eq}
 use native.Mathlib.Omega.{arith}
 use lib.ListN.{length, length-append}
-use lib.Dec.{ltb}
 use borrow.Author.Tests.{ltb-true, lt-ltb}
 use Rattle.rules.specs.Lists.{one, each, keep, any, below, fold}
 use Rattle.rules.specs.Files.{Case}
@@ -15,16 +14,13 @@ use Rattle.rules.specs.Turns.{Place, same, Mark, State, state, Row, items, Turn
 use Rattle.rules.specs.Turns.Place.{gone}
 use Rattle.rules.specs.Turns.Turn.{nobody, somebody}
 use Rattle.rules.specs.Joint.{Cover, Piece, piece, cut, carry, meets, pieces, Entry, serveEntry, jointRules}
+use Rattle.rules.specs.Demands.{rowsAfter, listsOne, listsAll, visitLists, visitsLists, minuteLists, minutesLists, runLists, passes}
 use Rattle.theory_lists.specs.Tests.{or-true-second, or-brings, or-middle}
 use Rattle.theory_lists.specs.Every.{any-append}
 use Rattle.theory_lists.specs.Sums.{count-le, length-keep}
 use Rattle.theory_lists.specs.Below.{any-below}
 use Rattle.theory_lists.specs.Items.{items-start}
-use Rattle.theory_trace.specs.Trace.{rowsAfter, listsOne, listsAll, visitLists, visitsLists, minuteLists, minutesLists, runLists, Splits, next-splits, items-after}
-
--- the list has more items than the room
-abbrev pub passes : {A : Type 0} → ℕ → List A → Bool
-passes room l = ltb room (length l)
+use Rattle.theory_trace.specs.Trace.{Splits, next-splits, items-after}
 
 -- what comes of an asker is at least one item
 abbrev pub Grows : {A : Type 0} → Rules A → Type 0

@@ -1,19 +1,19 @@
 -- The lists of a run: the first one and the list after each asking item was served, in the order of serving; what the run has met is what the first of
 -- them that is refused is refused for. The definitions go step by step with the run, and so does the induction. Assumes nothing.
 use mathlib.Core.Path.{_≡_, refl, sym, ap, _∙_}
-use mathlib.Core.Bool.{Bool, true, false, not, cond}
+use mathlib.Core.Bool.{Bool, true, false, cond}
 use mathlib.Core.List.{List, [], _∷_, _++_, map, map-append}
 use Prim.Native.Nat.{ℕ, zero, suc}
 use native.Mathlib.Omega.{arith}
-use lib.ListN.{length}
 use lib.Dec.{ltb}
 use borrow.Author.Tests.{lt-ltb}
-use Rattle.rules.specs.Lists.{keep, fold}
+use Rattle.rules.specs.Lists.{fold}
 use Rattle.rules.specs.Refusals.{firstOf}
 use Rattle.rules.specs.Files.{Case}
-use Rattle.rules.specs.Turns.{Place, State, state, Row, row, items, Turn, Rules, sooner, ended, asks, elements, before, next, serveOne, serveAll, visit, minute, minutes, runFrom}
+use Rattle.rules.specs.Turns.{Place, State, state, Row, items, Turn, Rules, sooner, elements, before, next, serveOne, serveAll, visit, minute, minutes, runFrom}
 use Rattle.rules.specs.Turns.Turn.{nobody, somebody}
-use Rattle.theory_lists.specs.Items.{servedRows, servedList, items-served}
+use Rattle.rules.specs.Demands.{rowsAfter, listsOne, listsAll, visitLists, visitsLists, minuteLists, minutesLists, runLists}
+use Rattle.theory_lists.specs.Items.{servedList, items-served}
 
 -- ---- the definitions
 
@@ -21,40 +21,6 @@ use Rattle.theory_lists.specs.Items.{servedRows, servedList, items-served}
 abbrev pub firstMet : List ℕ → ℕ
 firstMet [] = 0
 firstMet (n ∷ l) = firstOf (ltb 0 n) n (firstMet l)
-
-module _ {A : Type 0} (C : Case) (R : Rules A) where
-  -- the rows after an asker was served
-  abbrev pub rowsAfter : ℕ → Place → List (Row A) → List (Row A) → A → List (Row A) → List (Row A)
-  rowsAfter t e rs b a c = servedRows (R .serve t e (items rs) a) b c
-
-  abbrev pub listsOne : ℕ → Place → (List (Row A) → List (List A)) → List (Row A) → Turn A → List (List A)
-  listsOne t e go rs nobody = []
-  listsOne t e go rs (somebody b a c) = items (rowsAfter t e rs b a c) ∷ go (rowsAfter t e rs b a c)
-
-  -- the list after each of the askers for e in minute t
-  unfoldable pub listsAll : ℕ → ℕ → Place → List (Row A) → List (List A)
-  listsAll zero t e rs = []
-  listsAll (suc k) t e rs = listsOne t e (listsAll k t e) rs (next C R rs)
-
-  unfoldable pub visitLists : ℕ → Place → State A → List (List A)
-  visitLists t e s = listsAll (length (s .list)) t e (map (λ a. row a (asks C t e (R .mark a))) (s .list))
-
-  abbrev pub visitsLists : ℕ → List Place → State A → List (List A)
-  visitsLists t [] s = []
-  visitsLists t (e ∷ es) s = visitLists t e s ++ visitsLists t es (visit C R t e s)
-
-  -- the list after each asker of minute t
-  unfoldable pub minuteLists : ℕ → State A → List (List A)
-  minuteLists t s = visitsLists t (elements C) (state (keep (λ a. not (ended t (R .mark a))) (s .list)) (s .arrived) (s .met))
-
-  -- the list after each asker of the first n minutes
-  unfoldable pub minutesLists : ℕ → State A → List (List A)
-  minutesLists zero s = []
-  minutesLists (suc n) s = minutesLists n s ++ minuteLists n (minutes C R n s)
-
-  -- the first list, and the list after each asker up to minute m
-  unfoldable pub runLists : List A → ℕ → List (List A)
-  runLists l m = l ∷ minutesLists (suc m) (state l [] (R .check l))
 
 -- ---- the asker
 

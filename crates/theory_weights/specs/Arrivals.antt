@@ -17,37 +17,17 @@ use Rattle.rules.specs.Turns.{Mark}
 use Rattle.rules.specs.Single.{single, minuteOf, arrival}
 use Rattle.rules.specs.Joint.{covers, choices, whole, weightOf, total, joint, weightAt}
 use Rattle.rules.specs.Listing.{window, notArrived}
+use Rattle.rules.specs.Demands.{view, isIn, isNever, arrivesIn, arrivesNever}
 use Rattle.theory_sound.specs.Facts.{Sound}
 use Rattle.theory_lists.specs.Tests.{eqb-turn}
 use Rattle.theory_lists.specs.Every.{Every, every-more}
 use Rattle.theory_lists.specs.Below.{sum-below-in}
 use Rattle.theory_lists.specs.Sums.{tick-split, tick-times, sum-same, sum-every, sum-less, sum-times, sum-plus, sum-zero, sum-keep, sum-swap}
 use Rattle.theory_weights.specs.Choices.{weight-all, choices-whole}
-use Rattle.theory_simulation.specs.View.{view}
 use Rattle.theory_simulation.specs.Serving.{Proper}
 use Rattle.theory_simulation.specs.Simulation.{joint-proper, single-kept, simulation}
 use Rattle.theory_weights.specs.Entries.{weightAt-choices}
 use Rattle.theory_weights.specs.Log.{single-logged, single-later}
-
--- ---- the definitions
-
--- the minute is t
-abbrev pub isIn : ℕ → Option ℕ → Bool
-isIn t none = false
-isIn t (some u) = eqb u t
-
--- there is no minute
-abbrev pub isNever : Option ℕ → Bool
-isNever none = true
-isNever (some u) = false
-
--- the choice's single run brings train k to its last station in minute t
-unfoldable pub arrivesIn : Case → ℕ → ℕ → List ℕ → Bool
-arrivesIn C k t x = isIn t (arrival C x k)
-
--- the choice's single run brings train k to its last station in no minute up to T
-unfoldable pub arrivesNever : Case → ℕ → List ℕ → Bool
-arrivesNever C k x = isNever (arrival C x k)
 
 is-in : (t : ℕ) (o : Option ℕ) → isIn t o ≡ true → o ≡ some t
 is-in t none h = absurd (false≢true h)

@@ -11,9 +11,9 @@ use Rattle.rules.specs.Lists.{one, tick, sum, count}
 use Rattle.rules.specs.Files.{Case}
 use Rattle.rules.specs.Turns.{Mark}
 use Rattle.rules.specs.Joint.{Entry, covers, choices, weightOf, weight, weightAt}
+use Rattle.rules.specs.Demands.{view}
 use Rattle.theory_lists.specs.Sums.{sum-append, sum-same, sum-times, sum-plus, sum-zero, sum-keep}
 use Rattle.theory_lists.specs.Every.{Every}
-use Rattle.theory_simulation.specs.View.{view}
 use Rattle.theory_simulation.specs.Serving.{Proper}
 use Rattle.theory_weights.specs.Choices.{weight-covers}
 

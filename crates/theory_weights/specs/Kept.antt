@@ -9,13 +9,14 @@ use Rattle.rules.specs.Files.{Case}
 use Rattle.rules.specs.Turns.{Place, Served, State, state, Row, items, Turn, Rules, ended, asks, elements, next, serveOne, serveAll, visit, minute, minutes, runFrom}
 use Rattle.rules.specs.Turns.Turn.{nobody, somebody}
 use Rattle.rules.specs.Joint.{whole, firstList, jointRules}
+use Rattle.rules.specs.Demands.{rowsAfter, listsOne, listsAll, visitLists, visitsLists, minuteLists, minutesLists, runLists}
 use Rattle.theory_sound.specs.Facts.{Sound}
 use Rattle.theory_simulation.specs.Parts.{Parts}
 use Rattle.theory_simulation.specs.Serving.{Proper, pieces-proper, serve-covers}
 use Rattle.theory_simulation.specs.Start.{first-proper}
 use Rattle.theory_lists.specs.Every.{Every, every-append, every-left, every-right, every-keep}
 use Rattle.theory_lists.specs.Items.{items-start}
-use Rattle.theory_trace.specs.Trace.{rowsAfter, listsOne, listsAll, visitLists, visitsLists, minuteLists, minutesLists, runLists, Splits, next-splits, items-after}
+use Rattle.theory_trace.specs.Trace.{Splits, next-splits, items-after}
 
 -- each item of the parts of a serving has the property
 pub record ServedAll {A : Type 0} (p : A → Type 0) (s : Served A) : Type 0 where

@@ -13,6 +13,7 @@ use Rattle.rules.specs.Lists.{any, tick, below}
 use Rattle.rules.specs.Refusals.{firstOf}
 use Rattle.rules.specs.Files.{Case}
 use Rattle.rules.specs.Joint.{Cover, whole, covers, choices, weightOf, weight, total, Entry, firstList, checkList, jointRules, joint}
+use Rattle.rules.specs.Demands.{runLists, passes}
 use Rattle.theory_sound.specs.Facts.{Sound}
 use Rattle.theory_lists.specs.Tests.{or-false-second}
 use Rattle.theory_lists.specs.Every.{Every, every-more, any-none, none-any}
@@ -21,9 +22,9 @@ use Rattle.theory_lists.specs.Sums.{tick-times, sum-less}
 use Rattle.theory_simulation.specs.Parts.{Parts}
 use Rattle.theory_simulation.specs.Serving.{Proper}
 use Rattle.theory_weights.specs.Choices.{weight-covers, weight-all}
-use Rattle.theory_trace.specs.Trace.{firstMet, runLists, run-met}
+use Rattle.theory_trace.specs.Trace.{firstMet, run-met}
 use Rattle.theory_weights.specs.Kept.{joint-lists}
-use Rattle.theory_trace.specs.Longest.{passes, run-longest, serveEntry-grows}
+use Rattle.theory_trace.specs.Longest.{run-longest, serveEntry-grows}
 
 -- ---- refusal 13 never comes
 
