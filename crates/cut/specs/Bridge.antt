@@ -1,13 +1,13 @@
 -- The cutting rule on packed covers is the cutting rule of 01: the pieces of packed covers are the pieces of the covers, packed, in order.
 -- `carried` and `carry` take the same turns, since each test and each cover of a turn is the other's, packed. Assumes nothing.
 use mathlib.Core.Path.{_≡_, refl, ap}
-use mathlib.Core.Bool.{Bool, true, false, not}
+use mathlib.Core.Bool.{Bool, true, false, not, cond}
 use mathlib.Core.List.{List, [], _∷_, _++_, map, map-append}
 use Prim.Native.Nat.{ℕ, suc, _+_, _-_}
 use lib.ListN.{length, length-map}
 use lib.Dec.{leb, ltb}
 use Rattle.rules.specs.Lists.{one, each, keep}
-use Rattle.rules.specs.Joint.{Cover, inside, apart, outsides, Piece, cut, carry}
+use Rattle.rules.specs.Joint.{Cover, inside, apart, outsides, Piece, piece, carry}
 use Rattle.theory_lists.specs.Every.{Every}
 use Rattle.cut.specs.Cut.{Part, outs, turn, carried, heldOf, enteringOf}
 use Rattle.cut.specs.Packed.{packed, packedPiece, Packable}
@@ -24,7 +24,7 @@ turn-cut : (s f a : Bool) (on′ : ℕ → ℕ → List Part) (on : ℕ → Cove
     → on′ n (packed p) ≡ map packedPiece (on n p)
     → on′ (suc n) (packed c) ≡ map packedPiece (on (suc n) c)
     → each (on′ n) (outs 8 0 (packed c) (packed p - packed c)) ≡ map packedPiece (each (on n) (outsides p c))
-    → turn s f (not a) on′ n (packed p) (packed c) ≡ map packedPiece (cut s f a on n p c)
+    → turn s f (not a) on′ n (packed p) (packed c) ≡ map packedPiece (cond s (piece p true ∷ []) (cond f (piece p false ∷ []) (cond a (on n p) (on (suc n) c ++ each (on n) (outsides p c)))))
 turn-cut true f a on′ on n p c x y z = refl
 turn-cut false true a on′ on n p c x y z = refl
 turn-cut false false true on′ on n p c x y z = x

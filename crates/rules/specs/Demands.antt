@@ -9,7 +9,7 @@ use lib.ListN.{length}
 use lib.Dec.{ltb, eqb}
 use Rattle.rules.specs.Lists.{one, each, keep}
 use Rattle.rules.specs.Files.{Case}
-use Rattle.rules.specs.Turns.{Place, same, Mark, capacity, elements, ended, asks, State, state, Row, row, items, quiet, Turn, Rules, next, visit, minutes}
+use Rattle.rules.specs.Turns.{Place, same, Mark, capacity, elements, ended, asks, State, state, Row, row, items, quiet, Visit, visiting, Turn, Rules, next, serveNext, visit, minutes}
 use Rattle.rules.specs.Turns.Place.{station, track}
 use Rattle.rules.specs.Turns.Turn.{nobody, somebody}
 use Rattle.rules.specs.Single.{trainsOn, single, arrival}
@@ -78,17 +78,18 @@ module _ {A : Type 0} (C : Case) (R : Rules A) where
   abbrev pub rowsAfter : ℕ → Place → List (Row A) → List (Row A) → A → List (Row A) → List (Row A)
   rowsAfter t e rs b a c = let s = R .serve t e (items rs) a in b ++ quiet (s .rows) ++ c ++ quiet (s .added)
 
-  abbrev pub listsOne : ℕ → Place → (List (Row A) → List (List A)) → List (Row A) → Turn A → List (List A)
-  listsOne t e go rs nobody = []
-  listsOne t e go rs (somebody b a c) = items (rowsAfter t e rs b a c) ∷ go (rowsAfter t e rs b a c)
+  -- the list after the next asker was served, if there is one
+  abbrev pub turnList : ℕ → Place → List (Row A) → Turn A → List (List A)
+  turnList t e rs nobody = []
+  turnList t e rs (somebody b a c) = items (rowsAfter t e rs b a c) ∷ []
 
-  -- the list after each of the askers for e in minute t
-  unfoldable pub listsAll : ℕ → ℕ → Place → List (Row A) → List (List A)
-  listsAll zero t e rs = []
-  listsAll (suc k) t e rs = listsOne t e (listsAll k t e) rs (next C R rs)
+  -- the list after each of the askers that n turns serve for e in minute t
+  unfoldable pub turnLists : ℕ → ℕ → Place → Visit A → List (List A)
+  turnLists zero t e v = []
+  turnLists (suc n) t e v = turnList t e (v .rows) (next C R (v .rows)) ++ turnLists n t e (serveNext C R t e v (next C R (v .rows)))
 
   unfoldable pub visitLists : ℕ → Place → State A → List (List A)
-  visitLists t e s = listsAll (length (s .list)) t e (map (λ a. row a (asks C t e (R .mark a))) (s .list))
+  visitLists t e s = turnLists (length (s .list)) t e (visiting (map (λ a. row a (asks C t e (R .mark a))) (s .list)) (s .arrived) (s .met))
 
   abbrev pub visitsLists : ℕ → List Place → State A → List (List A)
   visitsLists t [] s = []

@@ -105,18 +105,17 @@ pub record Piece : Type 0 where
 abbrev pub piece : Cover → Bool → Piece
 piece p h = record { cover = p; held = h }
 
--- one turn of a piece p: whether its count has reached the capacity, whether its count and the entries still to meet stay below it, and whether
--- it has no common choice with the next; `on` carries a piece with its count through the entries after the next
-abbrev pub cut : Bool → Bool → Bool → (ℕ → Cover → List Piece) → ℕ → Cover → Cover → List Piece
-cut true few none on n p c = piece p true ∷ []
-cut false true none on n p c = piece p false ∷ []
-cut false false true on n p c = on n p
-cut false false false on n p c = on (suc n) c ++ each (on n) (outsides p c)
-
--- the piece p with count n, carried through the covers still to meet
+-- The piece p with count n, carried through the covers still to meet. A piece whose count has reached the capacity is held. Otherwise, if its count plus the
+-- number of entries still to meet is below the capacity, it enters uncut. Otherwise it meets the next. No common choice: it goes on. Else the inside goes on
+-- first with count plus 1; then the outside pieces; each is carried through the entries still to meet.
 unfoldable pub carry : ℕ → List Cover → ℕ → Cover → List Piece
 carry cap [] n p = piece p (leb cap n) ∷ []
-carry cap (q ∷ qs) n p = cut (leb cap n) (ltb (n + suc (length qs)) cap) (apart (inside p q)) (carry cap qs) n p (inside p q)
+carry cap (q ∷ qs) n p =
+    let c = inside p q in
+    cond (leb cap n) (piece p true ∷ [])
+    (cond (ltb (n + suc (length qs)) cap) (piece p false ∷ [])
+    (cond (apart c) (carry cap qs n p)
+    (carry cap qs (suc n) c ++ each (carry cap qs n) (outsides p c))))
 
 -- the entries of other trains that stand on or block the element, in list order
 unfoldable pub meets : Place → ℕ → List Entry → List Cover

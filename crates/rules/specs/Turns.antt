@@ -5,7 +5,7 @@ use mathlib.Core.List.{List, [], _∷_, _++_, map}
 use Prim.Native.Nat.{ℕ, zero, suc, _+_, _-_}
 use lib.ListN.{length, getD}
 use lib.Dec.{leb, ltb, eqb}
-use Rattle.rules.specs.Lists.{one, keep, fold, below}
+use Rattle.rules.specs.Lists.{one, keep, any, fold, below}
 use Rattle.rules.specs.Refusals.{firstOf}
 use Rattle.rules.specs.Files.{Track, Stop, Train, Case, leads, lastOf}
 
@@ -162,7 +162,7 @@ pub record State (A : Type 0) : Type 0 where
 abbrev pub state : {A : Type 0} → List A → List A → ℕ → State A
 state l v n = record { list = l; arrived = v; met = n }
 
--- a row, and whether it has yet to be served
+-- a row of the list while an element is visited, and whether it has yet to be served
 pub record Row (A : Type 0) : Type 0 where
   pub item : A
   pub asking : Bool
@@ -176,10 +176,33 @@ items rs = map (λ r. r .item) rs
 abbrev pub quiet : {A : Type 0} → List A → List (Row A)
 quiet l = map (λ a. row a false) l
 
+-- a visit of an element between two askers: the rows, what has arrived so far, and the refusal that was met first (0: none)
+pub record Visit (A : Type 0) : Type 0 where
+  pub rows : List (Row A)
+  pub arrived : List A
+  pub met : ℕ
+
+abbrev pub visiting : {A : Type 0} → List (Row A) → List A → ℕ → Visit A
+visiting rs v n = record { rows = rs; arrived = v; met = n }
+
+-- the state that a visit leaves
+abbrev pub left : {A : Type 0} → Visit A → State A
+left v = state (items (v .rows)) (v .arrived) (v .met)
+
 -- who is served next: nobody, or an asker with the rows before and after it
 pub data Turn (A : Type 0) : Type 0 where
   nobody : Turn A
   somebody : List (Row A) → A → List (Row A) → Turn A
+
+-- a row put before those among which somebody was found
+abbrev pub behind : {A : Type 0} → Row A → Turn A → Turn A
+behind r nobody = nobody
+behind r (somebody b a c) = somebody (r ∷ b) a c
+
+-- the first row that passes the test
+abbrev pub find : {A : Type 0} → (Row A → Bool) → List (Row A) → Turn A
+find test [] = nobody
+find test (r ∷ rs) = cond (test r) (somebody [] (r .item) rs) (behind r (find test rs))
 
 -- a run of items: the mark that an item shows, what comes of an item that asks for an element in a minute, and what a list is refused for
 pub record Rules (A : Type 0) : Type 0 where
@@ -188,35 +211,32 @@ pub record Rules (A : Type 0) : Type 0 where
   pub check : List A → ℕ
 
 module _ {A : Type 0} (C : Case) (R : Rules A) where
-  -- a row, put before rows among which somebody is next
-  abbrev pub before : Bool → Row A → List (Row A) → Turn A → Turn A
-  before false r rs nobody = nobody
-  before false r rs (somebody b a c) = somebody (r ∷ b) a c
-  before true r rs nobody = somebody [] (r .item) rs
-  before true r rs (somebody b a c) =
-      cond (sooner C (R .mark a) (R .mark (r .item))) (somebody (r ∷ b) a c) (somebody [] (r .item) rs)
+  -- an asker goes first if no asker is sooner
+  unfoldable pub goesFirst : List (Row A) → Row A → Bool
+  goesFirst rs r = r .asking && not (any (λ q. q .asking && sooner C (R .mark (q .item)) (R .mark (r .item))) rs)
 
-  -- the asker that goes first: none is sooner, and among equals it is the first in the list
+  -- the asker that goes first; among equals, the first in the list
   unfoldable pub next : List (Row A) → Turn A
-  next [] = nobody
-  next (r ∷ rs) = before (r .asking) r rs (next rs)
+  next rs = find (goesFirst rs) rs
 
-  -- one asker served: what replaces it stands in its row, what it adds at the end, and neither asks again in this minute; `go` serves the others
-  abbrev pub serveOne : ℕ → Place → (List (Row A) → List A → ℕ → State A) → List (Row A) → List A → ℕ → Turn A → State A
-  serveOne t e go rs v n nobody = state (items rs) v n
-  serveOne t e go rs v n (somebody b a c) =
-      let s = R .serve t e (items rs) a in
-      let rs′ = b ++ quiet (s .rows) ++ c ++ quiet (s .added) in
-      go rs′ (v ++ s .arrived) (firstOf (ltb 0 n) n (R .check (items rs′)))
+  -- an asker served: what replaces it stands in its row, what it adds at the end, and neither asks again in this minute
+  abbrev pub serveNext : ℕ → Place → Visit A → Turn A → Visit A
+  serveNext t e v nobody = v
+  serveNext t e v (somebody b a c) =
+      let s = R .serve t e (items (v .rows)) a in
+      let rs = b ++ quiet (s .rows) ++ c ++ quiet (s .added) in
+      visiting rs (v .arrived ++ s .arrived) (firstOf (ltb 0 (v .met)) (v .met) (R .check (items rs)))
 
-  unfoldable pub serveAll : ℕ → ℕ → Place → List (Row A) → List A → ℕ → State A
-  serveAll zero t e rs v n = state (items rs) v n
-  serveAll (suc k) t e rs v n = serveOne t e (serveAll k t e) rs v n (next rs)
+  -- n turns, one asker after another
+  unfoldable pub turns : ℕ → ℕ → Place → Visit A → Visit A
+  turns zero t e v = v
+  turns (suc n) t e v = turns n t e (serveNext t e v (next (v .rows)))
 
-  -- 2. and 3. the askers for e are fixed before the first is served
+  -- 2. and 3. the askers for e are fixed before the first is served. Each turn serves one of them, so there are no more turns than rows
+  -- (`turns-suffice`, crate `theory_simulation`)
   unfoldable pub visit : ℕ → Place → State A → State A
   visit t e s =
-      serveAll (length (s .list)) t e (map (λ a. row a (asks C t e (R .mark a))) (s .list)) (s .arrived) (s .met)
+      left (turns (length (s .list)) t e (visiting (map (λ a. row a (asks C t e (R .mark a))) (s .list)) (s .arrived) (s .met)))
 
   -- minute t
   unfoldable pub minute : ℕ → State A → State A

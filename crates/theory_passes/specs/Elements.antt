@@ -8,7 +8,7 @@ use native.Mathlib.Omega.{arith}
 use lib.ListN.{length}
 use Rattle.rules.specs.Lists.{fold, below}
 use Rattle.rules.specs.Files.{Case}
-use Rattle.rules.specs.Turns.{Place, same, Mark, Leg, way, after, ahead, headIs, elements, asks, State, state, row, Rules, visit}
+use Rattle.rules.specs.Turns.{Place, same, Mark, Leg, way, after, ahead, headIs, elements, asks, State, state, row, visiting, left, Rules, visit}
 use Rattle.rules.specs.Turns.Place.{outside, station, track, gone}
 use Rattle.theory_lists.specs.Every.{Every, every-map, every-all}
 use Rattle.theory_sound.specs.Facts.{Sound}
@@ -17,7 +17,7 @@ use Rattle.theory_sound.specs.Trains.{Known, way-known}
 use Rattle.theory_codes.specs.Codes.{placeOf}
 use Rattle.theory_simulation.specs.Places.{asked}
 use Rattle.theory_lists.specs.Items.{items-start}
-use Rattle.theory_simulation.specs.Runs.{serveAll-nobody}
+use Rattle.theory_simulation.specs.Runs.{turns-nobody}
 use Rattle.theory_passes.specs.Passes.{elementCodes}
 use Rattle.theory_lists.specs.Folds.{fold-append, fold-map, fold-below}
 
@@ -46,8 +46,8 @@ module _ (C : Case) (sound : Sound C) where
     pub visit-nobody : (e : Place) (s : State A) → Every (λ a. asks C t e (R .mark a) ≡ false) (s .list) → visit C R t e s ≡ s
     unfolding visit
     visit-nobody e s h =
-        serveAll-nobody C R (length (s .list)) t e (map (λ a. row a (asks C t e (R .mark a))) (s .list)) (s .arrived) (s .met)
-        (every-map (λ a. asks C t e (R .mark a) ≡ false) (λ r. r .asking ≡ false) (λ a. row a (asks C t e (R .mark a))) (λ a q. q) (s .list) h)
+        ap left (turns-nobody C R (length (s .list)) t e (visiting (map (λ a. row a (asks C t e (R .mark a))) (s .list)) (s .arrived) (s .met))
+        (every-map (λ a. asks C t e (R .mark a) ≡ false) (λ r. r .asking ≡ false) (λ a. row a (asks C t e (R .mark a))) (λ a q. q) (s .list) h))
         ∙ ap (λ (l : List A). state l (s .arrived) (s .met)) (items-start (λ a. asks C t e (R .mark a)) (s .list))
 
     pub visit-unknown : (e : Place) → (Known C e → ⊥) → (s : State A) → visit C R t e s ≡ s

@@ -11,7 +11,7 @@ use lib.Dec.{ltb, eqb}
 use borrow.Author.Tests.{ltb-true, ltb-false, eqb-true, eq-eqb}
 use Rattle.rules.specs.Lists.{fold, has}
 use Rattle.rules.specs.Files.{Train, Case}
-use Rattle.rules.specs.Turns.{Place, same, Mark, Leg, absent, legs, way, after, ahead, headIs, asks, sooner, Served, State, state, Row, row, items, quiet, Rules, next, serveOne, serveAll, visit}
+use Rattle.rules.specs.Turns.{Place, same, Mark, Leg, absent, legs, way, after, ahead, headIs, asks, sooner, Served, State, state, Row, row, items, quiet, Turn, Rules, visiting, left, next, serveNext, turns, visit}
 use Rattle.rules.specs.Turns.Place.{outside}
 use Rattle.rules.specs.Turns.Turn.{somebody}
 use Rattle.theory_codes.specs.Tables.{order}
@@ -21,7 +21,7 @@ use Rattle.theory_lists.specs.Sums.{count-le}
 use Rattle.theory_simulation.specs.Askers.{Asking, next-first}
 use Rattle.theory_simulation.specs.Places.{asked}
 use Rattle.theory_lists.specs.Items.{items-start, servedRows, servedList, items-served}
-use Rattle.theory_simulation.specs.Runs.{askers, askers-served, serveAll-nobody}
+use Rattle.theory_simulation.specs.Runs.{askers, askers-served, turns-nobody}
 use Rattle.theory_lists.specs.Tests.{and-true-first}
 use Rattle.theory_passes.specs.Passes.{asksFor}
 use Rattle.theory_passes.specs.Order.{earlier, sooner-trains, earlier-asym, earlier-self, Ordered, ordered-once, order-ordered, order-has}
@@ -29,6 +29,10 @@ use Rattle.theory_passes.specs.Marks.{Own}
 use Rattle.theory_passes.specs.Walk.{asksFor-asks, asksFor-train, mine, metWith, walkOne, walk, walkAll}
 
 module _ {A : Type 0} (C : Case) (R : Rules A) (t : ℕ) (e : Place) where
+  -- the state after f turns
+  abbrev afterTurns : ℕ → List (Row A) → List A → ℕ → State A
+  afterTurns f rs v n = left (turns C R f t e (visiting rs v n))
+
   -- the items of the trains ks that ask have yet to be served
   abbrev flag : List ℕ → List A → List (Row A)
   flag ks l = map (λ a. row a (has ks (R .mark a .train) && asks C t e (R .mark a))) l
@@ -124,18 +128,18 @@ module _ {A : Type 0} (C : Case) (R : Rules A) (t : ℕ) (e : Place) where
 
     -- serving goes on with the walk of train k, and then with what `finish` does
     module _ (finish : State A → State A)
-        (law : (f : ℕ) (l v : List A) (n : ℕ) → askers (flag ks l) ≤ f → serveAll C R f t e (flag ks l) v n ≡ finish (state l v n)) where
+        (law : (f : ℕ) (l v : List A) (n : ℕ) → askers (flag ks l) ≤ f → afterTurns f (flag ks l) v n ≡ finish (state l v n)) where
       serve-walk : (done rest new v : List A) (n f : ℕ) → askers (rowsOf done rest new) ≤ f
-          → serveAll C R f t e (rowsOf done rest new) v n ≡ finish (walk C R t e k done rest new v n)
-      unfolding walk serveAll
+          → afterTurns f (rowsOf done rest new) v n ≡ finish (walk C R t e k done rest new v n)
+      unfolding walk turns
       serve-walk done [] new v n f h =
-          ap (λ (rs : List (Row A)). serveAll C R f t e rs v n) (sym (flag-append ks done new))
+          ap (λ (rs : List (Row A)). afterTurns f rs v n) (sym (flag-append ks done new))
           ∙ law f (done ++ new) v n (le-trans (le-of-eq (ap askers (flag-append ks done new))) h)
       serve-walk done (a ∷ rest) new v n f h = go (mine C R t e k a) refl (λ d w. serve-walk d rest w)
         where
           go : (b : Bool) → mine C R t e k a ≡ b
-              → ((d w v : List A) (n f : ℕ) → askers (rowsOf d rest w) ≤ f → serveAll C R f t e (rowsOf d rest w) v n ≡ finish (walk C R t e k d rest w v n))
-              → serveAll C R f t e (rowsOf done (a ∷ rest) new) v n ≡ finish (walkOne C R t e (λ d w. walk C R t e k d rest w) done a rest new v n b)
+              → ((d w v : List A) (n f : ℕ) → askers (rowsOf d rest w) ≤ f → afterTurns f (rowsOf d rest w) v n ≡ finish (walk C R t e k d rest w v n))
+              → afterTurns f (rowsOf done (a ∷ rest) new) v n ≡ finish (walkOne C R t e (λ d w. walk C R t e k d rest w) done a rest new v n b)
           go true q ih = by f h
             where
               c : List (Row A)
@@ -160,17 +164,17 @@ module _ {A : Type 0} (C : Case) (R : Rules A) (t : ℕ) (e : Place) where
               fewer = askers-served s (flag ks done) a c ∙ ap askers (sym here)
 
               by : (f : ℕ) → askers (rowsOf done (a ∷ rest) new) ≤ f
-                  → serveAll C R f t e (rowsOf done (a ∷ rest) new) v n ≡ finish (walkOne C R t e (λ d w. walk C R t e k d rest w) done a rest new v n true)
+                  → afterTurns f (rowsOf done (a ∷ rest) new) v n ≡ finish (walkOne C R t e (λ d w. walk C R t e k d rest w) done a rest new v n true)
               by zero h = absurd (omega (arith, fewer))
               by (suc f) h =
-                  ap (λ (rs : List (Row A)). serveOne C R t e (serveAll C R f t e) rs v n (next C R rs)) here
-                  ∙ ap (serveOne C R t e (serveAll C R f t e) (flag ks done ++ (row a true ∷ c)) v n) (next-is done a rest new q)
-                  ∙ ap (λ (l : List A). let u = R .serve t e l a in serveAll C R f t e (servedRows u (flag ks done) c) (v ++ u .arrived) (metWith C R t e n (items (servedRows u (flag ks done) c)))) listed
-                  ∙ ap₂ (λ (rs : List (Row A)) (l : List A). serveAll C R f t e rs (v ++ s .arrived) (metWith C R t e n l)) (rows-served done a rest new q (done ++ (a ∷ (rest ++ new)))) checked
+                  ap (λ (rs : List (Row A)). left (turns C R f t e (serveNext C R t e (visiting rs v n) (next C R rs)))) here
+                  ∙ ap (λ (u : Turn A). left (turns C R f t e (serveNext C R t e (visiting (flag ks done ++ (row a true ∷ c)) v n) u))) (next-is done a rest new q)
+                  ∙ ap (λ (l : List A). let u = R .serve t e l a in afterTurns f (servedRows u (flag ks done) c) (v ++ u .arrived) (metWith C R t e n (items (servedRows u (flag ks done) c)))) listed
+                  ∙ ap₂ (λ (rs : List (Row A)) (l : List A). afterTurns f rs (v ++ s .arrived) (metWith C R t e n l)) (rows-served done a rest new q (done ++ (a ∷ (rest ++ new)))) checked
                   ∙ ih (done ++ s .rows) (new ++ s .added) (v ++ s .arrived) (metWith C R t e n (servedList s done (rest ++ new))) f
                   (omega (arith, fewer, ap askers (rows-served done a rest new q (done ++ (a ∷ (rest ++ new))))))
           go false q ih =
-              ap (λ (rs : List (Row A)). serveAll C R f t e rs v n) here
+              ap (λ (rs : List (Row A)). afterTurns f rs v n) here
               ∙ ih (done ++ (a ∷ [])) new v n f (le-trans (le-of-eq (ap askers (sym here))) h)
             where
               here : rowsOf done (a ∷ rest) new ≡ rowsOf (done ++ (a ∷ [])) rest new
@@ -181,11 +185,11 @@ module _ {A : Type 0} (C : Case) (R : Rules A) (t : ℕ) (e : Place) where
 
   -- the askers of trains in order, served as they come, are served train by train
   serve-walks : Own R → (ks : List ℕ) → Ordered C ks → (f : ℕ) (l v : List A) (n : ℕ) → askers (flag ks l) ≤ f
-      → serveAll C R f t e (flag ks l) v n ≡ fold (walkAll C R t e) ks (state l v n)
+      → afterTurns f (flag ks l) v n ≡ fold (walkAll C R t e) ks (state l v n)
   serve-walks own [] o f l v n h =
-      serveAll-nobody C R f t e (flag [] l) v n (flag-nobody l) ∙ ap (λ (w : List A). state w v n) (items-flag [] l)
+      ap left (turns-nobody C R f t e (visiting (flag [] l) v n) (flag-nobody l)) ∙ ap (λ (w : List A). state w v n) (items-flag [] l)
   serve-walks own (k ∷ ks) o f l v n h =
-      ap (λ (rs : List (Row A)). serveAll C R f t e rs v n) (sym (append-nil (flag (k ∷ ks) l)))
+      ap (λ (rs : List (Row A)). afterTurns f rs v n) (sym (append-nil (flag (k ∷ ks) l)))
       ∙ serve-walk own k ks o (fold (walkAll C R t e) ks) (serve-walks own ks (o .1)) [] l [] v n f (le-trans (le-of-eq (ap askers (append-nil (flag (k ∷ ks) l)))) h)
 
   -- a train that asks is one of the case
@@ -217,6 +221,6 @@ module _ {A : Type 0} (C : Case) (R : Rules A) (t : ℕ) (e : Place) where
   pub visit-walks : Own R → (s : State A) → visit C R t e s ≡ fold (walkAll C R t e) (order C) s
   unfolding visit
   visit-walks own s =
-      ap (λ (rs : List (Row A)). serveAll C R (length (s .list)) t e rs (s .arrived) (s .met)) (flag-order (s .list))
+      ap (λ (rs : List (Row A)). afterTurns (length (s .list)) rs (s .arrived) (s .met)) (flag-order (s .list))
       ∙ serve-walks own (order C) (order-ordered C) (length (s .list)) (s .list) (s .arrived) (s .met)
       (le-trans (count-le (λ r. r .asking) (flag (order C) (s .list))) (le-of-eq (length-map (s .list) (λ a. row a (has (order C) (R .mark a .train) && asks C t e (R .mark a))))))

@@ -1,7 +1,7 @@
 -- The cutting rule: of the pieces of a cover exactly one covers a choice that the cover covers, and its verdict is right for that choice.
 -- Both are one equation about what a choice sees of the pieces, by induction on the covers still to meet. Assumes nothing.
 use mathlib.Core.Path.{_≡_, refl, sym, ap, ap₂, _∙_}
-use mathlib.Core.Bool.{Bool, true, false, not, _&&_, false≢true}
+use mathlib.Core.Bool.{Bool, true, false, not, _&&_, cond, false≢true}
 use mathlib.Core.List.{List, [], _∷_, _++_, append-nil}
 use Prim.Native.Nat.{ℕ, suc, _+_, _≤_}
 use native.Mathlib.Nat.{add-zero}
@@ -10,7 +10,7 @@ use lib.ListN.{length}
 use lib.Dec.{leb, ltb}
 use borrow.Author.Tests.{leb-true, ltb-true, le-leb, lt-leb}
 use Rattle.rules.specs.Lists.{one, each, tick, count}
-use Rattle.rules.specs.Joint.{Cover, inside, apart, outsides, covers, Piece, cut, carry}
+use Rattle.rules.specs.Joint.{Cover, inside, apart, outsides, covers, Piece, piece, carry}
 use Rattle.theory_lists.specs.Each.{each-append, each-each}
 use Rattle.theory_lists.specs.Every.{each-every, Every}
 use Rattle.theory_lists.specs.Sums.{tick-le}
@@ -50,7 +50,8 @@ carry-law x cap (q ∷ qs) fs n p f =
   where
     go : (full few none : Bool) → leb cap n ≡ full → ltb (n + suc (length qs)) cap ≡ few → apart (inside p q) ≡ none
         → ((m : ℕ) (c : Cover) → Fits x c → verdicts x (carry cap qs m c) ≡ one (covers c x) (leb cap (m + hits x qs)))
-        → verdicts x (cut full few none (carry cap qs) n p (inside p q)) ≡ one (covers p x) (leb cap (n + (tick (covers q x) + hits x qs)))
+        → verdicts x (cond full (piece p true ∷ []) (cond few (piece p false ∷ []) (cond none (carry cap qs n p) (carry cap qs (suc n) (inside p q) ++ each (carry cap qs n) (outsides p (inside p q))))))
+        ≡ one (covers p x) (leb cap (n + (tick (covers q x) + hits x qs)))
     go true few none h₁ h₂ h₃ ih =
         append-nil (one (covers p x) true)
         ∙ ap (one (covers p x)) (sym (le-leb cap (n + (tick (covers q x) + hits x qs)) (omega (arith, leb-true cap n h₁))))

@@ -6,11 +6,9 @@ use mathlib.Core.List.{List, [], _∷_, _++_, map}
 use Prim.Native.Nat.{ℕ, zero, suc, _≤_}
 use native.Mathlib.Omega.{arith}
 use lib.ListN.{length}
-use lib.Dec.{ltb}
 use Rattle.rules.specs.Lists.{keep, fold}
-use Rattle.rules.specs.Refusals.{firstOf}
 use Rattle.rules.specs.Files.{Case}
-use Rattle.rules.specs.Turns.{Place, Mark, elements, ended, asks, Served, State, state, Row, row, items, quiet, Turn, Rules, next, serveOne, serveAll, visit, minute, minutes, runFrom}
+use Rattle.rules.specs.Turns.{Place, Mark, elements, ended, asks, Served, State, state, Row, row, items, quiet, Visit, visiting, Turn, Rules, next, serveNext, turns, visit, minute, minutes, runFrom}
 use Rattle.rules.specs.Turns.Turn.{nobody, somebody}
 use Rattle.theory_lists.specs.Every.{Every, every-append, every-left, every-right, every-map, every-all}
 use Rattle.theory_lists.specs.Items.{servedRows, servedList, items-start, items-asker, items-served}
@@ -46,29 +44,28 @@ module _ {A : Type 0} (C : Case) (R : Rules A) (last : ℕ) (E : Place → Type 
     (by-end : (t : ℕ) → t ≤ last → (l v : List A) → P l v → P (keep (λ a. not (ended t (R .mark a))) l) v)
     (by-serve : (t : ℕ) → t ≤ last → (e : Place) → E e → (b : List A) (a : A) (c v : List A) → asks C t e (R .mark a) ≡ true → P (b ++ (a ∷ c)) v
     → P (servedList (R .serve t e (b ++ (a ∷ c)) a) b c) (v ++ R .serve t e (b ++ (a ∷ c)) a .arrived)) where
-  serveAll-keeps : (k t : ℕ) → t ≤ last → (e : Place) → E e → (rs : List (Row A)) (v : List A) (n : ℕ)
-      → Every (Asking R (λ m. asks C t e m ≡ true)) rs → P (items rs) v → P (serveAll C R k t e rs v n .list) (serveAll C R k t e rs v n .arrived)
-  unfolding serveAll
-  serveAll-keeps zero t h e f rs v n q p = p
-  serveAll-keeps (suc k) t h e f rs v n q p = go (next C R rs) (next-chosen C R rs) (serveAll-keeps k t h e f)
+  turns-keep : (k t : ℕ) → t ≤ last → (e : Place) → E e → (v : Visit A) → Every (Asking R (λ m. asks C t e m ≡ true)) (v .rows)
+      → P (items (v .rows)) (v .arrived) → P (items (turns C R k t e v .rows)) (turns C R k t e v .arrived)
+  unfolding turns
+  turns-keep zero t h e f v q p = p
+  turns-keep (suc k) t h e f v q p = go (next C R (v .rows)) (next-chosen C R (v .rows)) (turns-keep k t h e f)
     where
-      go : (u : Turn A) → Chosen C R rs u
-          → ((rs : List (Row A)) (v : List A) (n : ℕ) → Every (Asking R (λ m. asks C t e m ≡ true)) rs → P (items rs) v
-          → P (serveAll C R k t e rs v n .list) (serveAll C R k t e rs v n .arrived))
-          → P (serveOne C R t e (serveAll C R k t e) rs v n u .list) (serveOne C R t e (serveAll C R k t e) rs v n u .arrived)
-      go nobody g ih = p
+      go : (u : Turn A) → Chosen C R (v .rows) u
+          → ((w : Visit A) → Every (Asking R (λ m. asks C t e m ≡ true)) (w .rows) → P (items (w .rows)) (w .arrived) → P (items (turns C R k t e w .rows)) (turns C R k t e w .arrived))
+          → P (items (turns C R k t e (serveNext C R t e v u) .rows)) (turns C R k t e (serveNext C R t e v u) .arrived)
+      go nobody g ih = ih v q p
       go (somebody b a c) g ih =
-          ih (servedRows s b c) (v ++ s .arrived) (firstOf (ltb 0 n) n (R .check (items (servedRows s b c))))
+          ih (serveNext C R t e v (somebody b a c))
           (served-asking R (λ m. asks C t e m ≡ true) s b a c asking)
-          (subst (λ (l : List A). P l (v ++ s .arrived)) (sym (items-served s b c))
-          (subst (λ (l : List A). P (servedList (R .serve t e l a) (items b) (items c)) (v ++ R .serve t e l a .arrived)) (sym here)
-          (by-serve t h e f (items b) a (items c) v (every-right (Asking R (λ m. asks C t e m ≡ true)) b (row a true ∷ c) asking .0 refl)
-          (subst (λ (l : List A). P l v) here p))))
+          (subst (λ (l : List A). P l (v .arrived ++ s .arrived)) (sym (items-served s b c))
+          (subst (λ (l : List A). P (servedList (R .serve t e l a) (items b) (items c)) (v .arrived ++ R .serve t e l a .arrived)) (sym here)
+          (by-serve t h e f (items b) a (items c) (v .arrived) (every-right (Asking R (λ m. asks C t e m ≡ true)) b (row a true ∷ c) asking .0 refl)
+          (subst (λ (l : List A). P l (v .arrived)) here p))))
         where
           s : Served A
-          s = R .serve t e (items rs) a
+          s = R .serve t e (items (v .rows)) a
 
-          here : items rs ≡ items b ++ (a ∷ items c)
+          here : items (v .rows) ≡ items b ++ (a ∷ items c)
           here = ap items (g .apart) ∙ items-asker b a c
 
           asking : Every (Asking R (λ m. asks C t e m ≡ true)) (b ++ (row a true ∷ c))
@@ -77,7 +74,7 @@ module _ {A : Type 0} (C : Case) (R : Rules A) (last : ℕ) (E : Place → Type 
   visit-keeps : (t : ℕ) → t ≤ last → (e : Place) → E e → (s : State A) → P (s .list) (s .arrived) → P (visit C R t e s .list) (visit C R t e s .arrived)
   unfolding visit
   visit-keeps t h e f s p =
-      serveAll-keeps (length (s .list)) t h e f (map (λ a. row a (asks C t e (R .mark a))) (s .list)) (s .arrived) (s .met)
+      turns-keep (length (s .list)) t h e f (visiting (map (λ a. row a (asks C t e (R .mark a))) (s .list)) (s .arrived) (s .met))
       (asking-start C R t e (s .list)) (subst (λ (l : List A). P l (s .arrived)) (sym (items-start (λ a. asks C t e (R .mark a)) (s .list))) p)
 
   visits-keep : (t : ℕ) → t ≤ last → (es : List Place) → Every E es → (s : State A) → P (s .list) (s .arrived)

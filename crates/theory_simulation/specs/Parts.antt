@@ -2,14 +2,14 @@
 -- Cutting only keeps some delays of a set, and drops a set that would be left empty with its piece. Assumes nothing.
 use mathlib.Core.Path.{_≡_, refl, sym, ap, _∙_, subst}
 use mathlib.Core.Bool.{Bool, true, false, _&&_, _||_, cond, false≢true}
-use mathlib.Core.List.{List, [], _∷_}
-use Prim.Native.Nat.{ℕ, zero, suc, _≤_, _<_}
+use mathlib.Core.List.{List, [], _∷_, _++_}
+use Prim.Native.Nat.{ℕ, zero, suc, _+_, _≤_, _<_}
 use native.Mathlib.Omega.{arith}
 use lib.ListN.{length, getD, set}
-use lib.Dec.{eqb}
+use lib.Dec.{leb, ltb, eqb}
 use borrow.Author.Tests.{not-true}
 use Rattle.rules.specs.Lists.{one, each, keep, any, tick, count, has}
-use Rattle.rules.specs.Joint.{Cover, common, without, isEmpty, inside, apart, outsides, Piece, cut, carry}
+use Rattle.rules.specs.Joint.{Cover, common, without, isEmpty, inside, apart, outsides, Piece, piece, carry}
 use Rattle.theory_lists.specs.Each.{each-each, each-one, each-same}
 use Rattle.theory_lists.specs.Every.{Every, every-append, every-map, every-one, every-each, has-keep}
 use Rattle.theory_lists.specs.Sums.{sum-keep-le}
@@ -107,7 +107,7 @@ outsides-parts (w ∷ ws) (s ∷ p) (u ∷ c) h k =
 -- one turn of a piece, where what is carried on stays a part, whatever its count
 cut-parts : (ws : Cover) (full few none : Bool) (on : ℕ → Cover → List Piece) (n : ℕ) (p c : Cover)
     → ((m : ℕ) (q : Cover) → Parts ws q → Every (λ r. Parts ws (r .cover)) (on m q)) → Parts ws p → (none ≡ false → Parts ws c)
-    → Every (λ r. Parts ws (r .cover)) (cut full few none on n p c)
+    → Every (λ r. Parts ws (r .cover)) (cond full (piece p true ∷ []) (cond few (piece p false ∷ []) (cond none (on n p) (on (suc n) c ++ each (on n) (outsides p c)))))
 cut-parts ws true few none on n p c carried h k = (h, tt)
 cut-parts ws false true none on n p c carried h k = (h, tt)
 cut-parts ws false false true on n p c carried h k = carried _ p h
@@ -121,5 +121,5 @@ pub carry-parts : (ws : Cover) (cap : ℕ) (qs : List Cover) → Every (Parts ws
 unfolding carry
 carry-parts ws cap [] fs n p h = (h, tt)
 carry-parts ws cap (q ∷ qs) fs n p h =
-    let carried = carry-parts ws cap qs (fs .1) in
-    search (cut-parts, carried, inside-parts, fs .0)
+    cut-parts ws (leb cap n) (ltb (n + suc (length qs)) cap) (apart (inside p q)) (carry cap qs) n p (inside p q) (carry-parts ws cap qs (fs .1)) h
+    (inside-parts ws p q h (fs .0))

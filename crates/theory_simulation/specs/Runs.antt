@@ -3,15 +3,13 @@
 use mathlib.Core.Path.{_≡_, refl, sym, ap, _∙_, subst}
 use mathlib.Core.Bool.{Bool, true, false, not, cond}
 use mathlib.Core.List.{List, [], _∷_, _++_, map, append-nil}
-use Prim.Native.Nat.{ℕ, zero, suc, _≤_}
+use Prim.Native.Nat.{ℕ, zero, suc, _+_, _≤_}
 use native.Mathlib.Nat.{le-trans, le-of-eq}
 use native.Mathlib.Omega.{arith}
 use lib.ListN.{length, length-map}
-use lib.Dec.{ltb}
 use Rattle.rules.specs.Lists.{one, keep, tick, count, fold}
-use Rattle.rules.specs.Refusals.{firstOf}
 use Rattle.rules.specs.Files.{Case}
-use Rattle.rules.specs.Turns.{Place, Mark, elements, ended, asks, sooner, Served, served, State, state, Row, row, items, quiet, Turn, Rules, next, serveOne, serveAll, visit, minute, minutes, runFrom}
+use Rattle.rules.specs.Turns.{Place, Mark, elements, ended, asks, sooner, Served, served, State, state, Row, row, items, quiet, Visit, visiting, left, Turn, Rules, next, serveNext, turns, visit, minute, minutes, runFrom}
 use Rattle.rules.specs.Turns.Turn.{nobody, somebody}
 use Rattle.rules.specs.Single.{serveTrain, singleRules}
 use Rattle.rules.specs.Joint.{covers, Entry, serveEntry, jointRules}
@@ -54,11 +52,24 @@ module _ {A : Type 0} where
       f r = tick (r .asking)
 
   -- where nobody asks, however many turns there are, nothing happens
-  pub serveAll-nobody : (C : Case) (R : Rules A) (k t : ℕ) (e : Place) (rs : List (Row A)) (v : List A) (n : ℕ) → Every (λ r. r .asking ≡ false) rs
-      → serveAll C R k t e rs v n ≡ state (items rs) v n
-  unfolding serveAll
-  serveAll-nobody C R zero t e rs v n h = refl
-  serveAll-nobody C R (suc k) t e rs v n h = ap (serveOne C R t e (serveAll C R k t e) rs v n) (next-nobody C R rs h)
+  pub turns-nobody : (C : Case) (R : Rules A) (k t : ℕ) (e : Place) (v : Visit A) → Every (λ r. r .asking ≡ false) (v .rows) → turns C R k t e v ≡ v
+  unfolding turns
+  turns-nobody C R zero t e v h = refl
+  turns-nobody C R (suc k) t e v h = ap (λ (u : Turn A). turns C R k t e (serveNext C R t e v u)) (next-nobody C R (v .rows) h) ∙ turns-nobody C R k t e v h
+
+  -- as many turns as there are askers suffice: more change nothing
+  pub turns-suffice : (C : Case) (R : Rules A) (k j t : ℕ) (e : Place) (v : Visit A) → askers (v .rows) ≤ k → turns C R (k + j) t e v ≡ turns C R k t e v
+  unfolding turns
+  turns-suffice C R zero j t e v h = turns-nobody C R (0 + j) t e v (count-none (λ r. r .asking) (v .rows) h)
+  turns-suffice C R (suc k) j t e v h =
+      let more : suc k + j ≡ suc (k + j) = omega arith in
+      ap (λ (i : ℕ). turns C R i t e v) more ∙ go (next C R (v .rows)) (next-chosen C R (v .rows)) (turns-suffice C R k j t e)
+    where
+      go : (u : Turn A) → Chosen C R (v .rows) u → ((w : Visit A) → askers (w .rows) ≤ k → turns C R (k + j) t e w ≡ turns C R k t e w)
+          → turns C R (k + j) t e (serveNext C R t e v u) ≡ turns C R k t e (serveNext C R t e v u)
+      go nobody f ih = turns-nobody C R (k + j) t e v f ∙ sym (turns-nobody C R k t e v f)
+      go (somebody b a c) f ih =
+          ih (serveNext C R t e v (somebody b a c)) (omega (arith, askers-served (R .serve t e (items (v .rows)) a) b a c, ap askers (f .apart)))
 
 -- ---- the two runs
 
@@ -183,40 +194,44 @@ module _ (C : Case) (sound : Sound C) (x : List ℕ) (ch : Choice C x) where
 
     -- ---- one turn after another
 
+    abbrev Alike : Visit Entry → Visit Mark → Type 0
+    Alike v w = Rows C x t e (v .rows) (v .arrived) (w .rows) (w .arrived)
+
     -- k turns of the joint run are enough, and h of the single run
     abbrev Turns : ℕ → Type 0
-    Turns k = (h : ℕ) (rs : List (Row Entry)) (v : List Entry) (n : ℕ) (ws : List (Row Mark)) (w : List Mark) (o : ℕ) → Rows C x t e rs v ws w → askers rs ≤ k → askers ws ≤ h
-        → Twin C x (serveAll C (jointRules C) k t e rs v n) (serveAll C (singleRules C) h t e ws w o)
+    Turns k = (h : ℕ) (v : Visit Entry) (w : Visit Mark) → Alike v w → askers (v .rows) ≤ k → askers (w .rows) ≤ h
+        → Twin C x (left (turns C (jointRules C) k t e v)) (left (turns C (singleRules C) h t e w))
 
-    nobody-twin : (h : ℕ) (rs : List (Row Entry)) (v : List Entry) (n : ℕ) (ws : List (Row Mark)) (w : List Mark) (o : ℕ) → Rows C x t e rs v ws w
-        → Every (λ r. r .asking ≡ false) rs → Twin C x (state (items rs) v n) (serveAll C (singleRules C) h t e ws w o)
-    nobody-twin h rs v n ws w o at f =
-        subst (Twin C x (state (items rs) v n))
-        (sym (serveAll-nobody C (singleRules C) h t e ws w o (subst (Every (λ r. r .asking ≡ false)) (at .rows) (viewRows-none x rs f))))
-        (record { list = sym (items-view x rs) ∙ ap items (at .rows); arrived = at .arrived; proper = at .proper; orderly = at .orderly })
+    nobody-twin : (k h : ℕ) (v : Visit Entry) (w : Visit Mark) → Alike v w → Every (λ r. r .asking ≡ false) (v .rows)
+        → Twin C x (left (turns C (jointRules C) k t e v)) (left (turns C (singleRules C) h t e w))
+    nobody-twin k h v w at f =
+        subst (λ (u : Visit Entry). Twin C x (left u) (left (turns C (singleRules C) h t e w))) (sym (turns-nobody C (jointRules C) k t e v f))
+        (subst (λ (u : Visit Mark). Twin C x (left v) (left u))
+        (sym (turns-nobody C (singleRules C) h t e w (subst (Every (λ r. r .asking ≡ false)) (at .rows) (viewRows-none x (v .rows) f))))
+        (record { list = sym (items-view x (v .rows)) ∙ ap items (at .rows); arrived = at .arrived; proper = at .proper; orderly = at .orderly }))
 
-    turn-twin : (k : ℕ) → Turns k → (h : ℕ) (rs : List (Row Entry)) (v : List Entry) (n : ℕ) (ws : List (Row Mark)) (w : List Mark) (o : ℕ) → Rows C x t e rs v ws w
-        → askers rs ≤ suc k → askers ws ≤ h → (b : List (Row Entry)) (a : Entry) (c : List (Row Entry)) → First C (jointRules C) rs b a c
-        → Twin C x (serveOne C (jointRules C) t e (serveAll C (jointRules C) k t e) rs v n (somebody b a c)) (serveAll C (singleRules C) h t e ws w o)
-    unfolding serveAll jointRules singleRules
-    turn-twin k ih h rs v n ws w o at enough full b a c first = go (covers (a .cover) x) refl h full
+    turn-twin : (k : ℕ) → Turns k → (h : ℕ) (v : Visit Entry) (w : Visit Mark) → Alike v w
+        → askers (v .rows) ≤ suc k → askers (w .rows) ≤ h → (b : List (Row Entry)) (a : Entry) (c : List (Row Entry)) → First C (jointRules C) (v .rows) b a c
+        → Twin C x (left (turns C (jointRules C) k t e (serveNext C (jointRules C) t e v (somebody b a c)))) (left (turns C (singleRules C) h t e w))
+    unfolding turns jointRules singleRules
+    turn-twin k ih h v w at enough full b a c first = go (covers (a .cover) x) refl h full
       where
         s : Served Entry
-        s = serveEntry C t e (items rs) a
+        s = serveEntry C t e (items (v .rows)) a
 
-        less : suc (askers (servedRows s b c)) ≡ askers rs
+        less : suc (askers (servedRows s b c)) ≡ askers (v .rows)
         less = askers-served s b a c ∙ ap askers (sym (first .apart))
 
-        m : ℕ
-        m = firstOf (ltb 0 n) n (jointRules C .check (items (servedRows s b c)))
+        after : Visit Entry
+        after = serveNext C (jointRules C) t e v (somebody b a c)
 
-        go : (z : Bool) → covers (a .cover) x ≡ z → (h : ℕ) → askers ws ≤ h
-            → Twin C x (serveAll C (jointRules C) k t e (servedRows s b c) (v ++ s .arrived) m) (serveAll C (singleRules C) h t e ws w o)
-        go false q h full = ih h (servedRows s b c) (v ++ s .arrived) m ws w o (apart-after rs b a c v ws w first at q) (omega (arith, less)) full
+        go : (z : Bool) → covers (a .cover) x ≡ z → (h : ℕ) → askers (w .rows) ≤ h
+            → Twin C x (left (turns C (jointRules C) k t e after)) (left (turns C (singleRules C) h t e w))
+        go false q h full = ih h after w (apart-after (v .rows) b a c (v .arrived) (w .rows) (w .arrived) first at q) (omega (arith, less)) full
         go true q h full = by h full
           where
             u : Served Mark
-            u = serveTrain C t e (items ws) (a .mark)
+            u = serveTrain C t e (items (w .rows)) (a .mark)
 
             wb : List (Row Mark)
             wb = viewRows x b
@@ -224,37 +239,35 @@ module _ (C : Case) (sound : Sound C) (x : List ℕ) (ch : Choice C x) where
             wc : List (Row Mark)
             wc = viewRows x c
 
-            next-is : next C (singleRules C) ws ≡ somebody wb (a .mark) wc
-            next-is = ap (next C (singleRules C)) (sym (at .rows)) ∙ next-view rs b a c first q
+            next-is : next C (singleRules C) (w .rows) ≡ somebody wb (a .mark) wc
+            next-is = ap (next C (singleRules C)) (sym (at .rows)) ∙ next-view (v .rows) b a c first q
 
-            fewer : suc (askers (servedRows u wb wc)) ≡ askers ws
+            fewer : suc (askers (servedRows u wb wc)) ≡ askers (w .rows)
             fewer = askers-served u wb (a .mark) wc ∙ ap askers (sym (sym (at .rows) ∙ ap (viewRows x) (first .apart) ∙ around-view b a c true q))
 
-            by : (h : ℕ) → askers ws ≤ h → Twin C x (serveAll C (jointRules C) k t e (servedRows s b c) (v ++ s .arrived) m) (serveAll C (singleRules C) h t e ws w o)
+            by : (h : ℕ) → askers (w .rows) ≤ h → Twin C x (left (turns C (jointRules C) k t e after)) (left (turns C (singleRules C) h t e w))
             by zero full = absurd (omega (arith, fewer))
             by (suc h) full =
-                subst (λ (y : Turn Mark). Twin C x (serveAll C (jointRules C) k t e (servedRows s b c) (v ++ s .arrived) m)
-                (serveOne C (singleRules C) t e (serveAll C (singleRules C) h t e) ws w o y)) (sym next-is)
-                (ih h (servedRows s b c) (v ++ s .arrived) m (servedRows u wb wc) (w ++ u .arrived)
-                (firstOf (ltb 0 o) o (singleRules C .check (items (servedRows u wb wc))))
-                (same-after rs b a c v ws w first at q) (omega (arith, less)) (omega (arith, fewer)))
+                subst (λ (y : Turn Mark). Twin C x (left (turns C (jointRules C) k t e after)) (left (turns C (singleRules C) h t e (serveNext C (singleRules C) t e w y)))) (sym next-is)
+                (ih h after (serveNext C (singleRules C) t e w (somebody wb (a .mark) wc))
+                (same-after (v .rows) b a c (v .arrived) (w .rows) (w .arrived) first at q) (omega (arith, less)) (omega (arith, fewer)))
 
-    serveAll-twin : (k : ℕ) → Turns k
-    unfolding serveAll
-    serveAll-twin zero h rs v n ws w o at enough full = nobody-twin h rs v n ws w o at (count-none (λ r. r .asking) rs enough)
-    serveAll-twin (suc k) h rs v n ws w o at enough full = go (next C (jointRules C) rs) (next-chosen C (jointRules C) rs) (serveAll-twin k)
+    turns-twin : (k : ℕ) → Turns k
+    unfolding turns
+    turns-twin zero h v w at enough full = nobody-twin zero h v w at (count-none (λ r. r .asking) (v .rows) enough)
+    turns-twin (suc k) h v w at enough full = go (next C (jointRules C) (v .rows)) (next-chosen C (jointRules C) (v .rows)) (turns-twin k)
       where
-        go : (y : Turn Entry) → Chosen C (jointRules C) rs y → Turns k
-            → Twin C x (serveOne C (jointRules C) t e (serveAll C (jointRules C) k t e) rs v n y) (serveAll C (singleRules C) h t e ws w o)
-        go nobody f ih = nobody-twin h rs v n ws w o at f
-        go (somebody b a c) f ih = turn-twin k ih h rs v n ws w o at enough full b a c f
+        go : (y : Turn Entry) → Chosen C (jointRules C) (v .rows) y → Turns k
+            → Twin C x (left (turns C (jointRules C) k t e (serveNext C (jointRules C) t e v y))) (left (turns C (singleRules C) h t e w))
+        go nobody f ih = nobody-twin k h v w at f
+        go (somebody b a c) f ih = turn-twin k ih h v w at enough full b a c f
 
     -- ---- one element after another
 
     visit-twin : (s : State Entry) (u : State Mark) → Twin C x s u → Twin C x (visit C (jointRules C) t e s) (visit C (singleRules C) t e u)
     unfolding visit jointRules singleRules
     visit-twin s u w =
-        serveAll-twin (length (s .list)) (length (u .list)) rs (s .arrived) (s .met) ws (u .arrived) (u .met)
+        turns-twin (length (s .list)) (length (u .list)) (visiting rs (s .arrived) (s .met)) (visiting ws (u .arrived) (u .met))
         (record {
           rows = viewRows-start x (asks C t e) (s .list) ∙ ap (map (λ m. row m (asks C t e m))) (w .list);
           arrived = w .arrived;

@@ -7,14 +7,15 @@ use Prim.Native.Nat.{ℕ, zero, suc, _+_, _≤_}
 use native.Mathlib.Nat.{le-trans, le-of-eq}
 use native.Mathlib.Omega.{arith}
 use lib.ListN.{length, length-append}
+use lib.Dec.{leb, ltb}
 use borrow.Author.Tests.{ltb-true, lt-ltb}
 use Rattle.rules.specs.Lists.{one, each, keep, any, below, fold}
 use Rattle.rules.specs.Files.{Case}
-use Rattle.rules.specs.Turns.{Place, same, Mark, State, state, Row, items, Turn, Rules, capacity, ended, asks, elements, entered, next, serveOne, serveAll, visit, minute, minutes, runFrom}
+use Rattle.rules.specs.Turns.{Place, same, Mark, State, state, Row, items, Visit, Turn, Rules, capacity, ended, asks, elements, entered, next, serveNext, turns, visit, minute, minutes, runFrom}
 use Rattle.rules.specs.Turns.Place.{gone}
 use Rattle.rules.specs.Turns.Turn.{nobody, somebody}
-use Rattle.rules.specs.Joint.{Cover, Piece, piece, cut, carry, meets, pieces, Entry, serveEntry, jointRules}
-use Rattle.rules.specs.Demands.{rowsAfter, listsOne, listsAll, visitLists, visitsLists, minuteLists, minutesLists, runLists, passes}
+use Rattle.rules.specs.Joint.{Cover, inside, apart, outsides, Piece, piece, carry, meets, pieces, Entry, serveEntry, jointRules}
+use Rattle.rules.specs.Demands.{rowsAfter, turnList, turnLists, visitLists, visitsLists, minuteLists, minutesLists, runLists, passes}
 use Rattle.theory_lists.specs.Tests.{or-true-second, or-brings, or-middle}
 use Rattle.theory_lists.specs.Every.{any-append}
 use Rattle.theory_lists.specs.Sums.{count-le, length-keep}
@@ -72,24 +73,24 @@ module _ {A : Type 0} (room : ℕ) where
           grows t e (items rs) a,
         )
 
-    serveAll-longest : (k t : ℕ) (e : Place) (rs : List (Row A)) (v : List A) (n : ℕ) → Longest room (items rs) (listsAll C R k t e rs) (serveAll C R k t e rs v n .list)
-    unfolding serveAll listsAll
-    serveAll-longest zero t e rs v n = longest-none (items rs)
-    serveAll-longest (suc k) t e rs v n = go (next C R rs) (next-splits C R rs) (serveAll-longest k t e)
-      where
-        go : (u : Turn A) → Splits rs u
-            → ((rs : List (Row A)) (v : List A) (n : ℕ) → Longest room (items rs) (listsAll C R k t e rs) (serveAll C R k t e rs v n .list))
-            → Longest room (items rs) (listsOne C R t e (listsAll C R k t e) rs u) (serveOne C R t e (serveAll C R k t e) rs v n u .list)
-        go nobody split ih = longest-none (items rs)
-        go (somebody b a c) split ih =
-            let rs′ = rowsAfter C R t e rs b a c in
-            longest-then (items rs) (items rs′) _ (items rs′ ∷ []) (listsAll C R k t e rs′) (longest-one (items rs) (items rs′) (after-longer t e rs b a c split)) (ih rs′ _ _)
+    turn-longest : (t : ℕ) (e : Place) (v : Visit A) (u : Turn A) → Splits (v .rows) u
+        → Longest room (items (v .rows)) (turnList C R t e (v .rows) u) (items (serveNext C R t e v u .rows))
+    turn-longest t e v nobody split = longest-none (items (v .rows))
+    turn-longest t e v (somebody b a c) split = longest-one (items (v .rows)) (items (rowsAfter C R t e (v .rows) b a c)) (after-longer t e (v .rows) b a c split)
+
+    turns-longest : (k t : ℕ) (e : Place) (v : Visit A) → Longest room (items (v .rows)) (turnLists C R k t e v) (items (turns C R k t e v .rows))
+    unfolding turns turnLists
+    turns-longest zero t e v = longest-none (items (v .rows))
+    turns-longest (suc k) t e v =
+        let u = next C R (v .rows) in
+        longest-then (items (v .rows)) (items (serveNext C R t e v u .rows)) _ (turnList C R t e (v .rows) u) (turnLists C R k t e (serveNext C R t e v u))
+        (turn-longest t e v u (next-splits C R (v .rows))) (turns-longest k t e (serveNext C R t e v u))
 
     visit-longest : (t : ℕ) (e : Place) (s : State A) → Longest room (s .list) (visitLists C R t e s) (visit C R t e s .list)
     unfolding visit visitLists
     visit-longest t e s =
         subst (λ (l : List A). Longest room l (visitLists C R t e s) (visit C R t e s .list)) (items-start (λ a. asks C t e (R .mark a)) (s .list))
-        (serveAll-longest _ t e _ (s .arrived) (s .met))
+        (turns-longest _ t e _)
 
     visits-longest : (t : ℕ) (es : List Place) (s : State A) → Longest room (s .list) (visitsLists C R t es s) (fold (visit C R t) es s .list)
     visits-longest t [] s = longest-none (s .list)
@@ -156,20 +157,20 @@ some-map f (a ∷ l) h = omega arith
 some-append : {A : Type 0} (s t : List A) → 1 ≤ length s → 1 ≤ length (s ++ t)
 some-append s t h = omega (arith, length-append s t)
 
--- one turn of a piece comes to at least one piece, where each that is carried on does, whatever its count
-cut-some : (full few none : Bool) (on : ℕ → Cover → List Piece) (n : ℕ) (p c : Cover) → ((m : ℕ) (q : Cover) → 1 ≤ length (on m q)) → 1 ≤ length (cut full few none on n p c)
-cut-some true few none on n p c carried = omega arith
-cut-some false true none on n p c carried = omega arith
-cut-some false false true on n p c carried = carried _ p
-cut-some false false false on n p c carried = search (some-append, carried)
+-- of four ways each comes to at least one piece
+cond-some : (b : Bool) (s t : List Piece) → 1 ≤ length s → 1 ≤ length t → 1 ≤ length (cond b s t)
+cond-some true s t h k = h
+cond-some false s t h k = k
 
 -- a carried cover comes to at least one piece
 carry-some : (cap : ℕ) (qs : List Cover) (n : ℕ) (p : Cover) → 1 ≤ length (carry cap qs n p)
 unfolding carry
 carry-some cap [] n p = omega arith
 carry-some cap (q ∷ qs) n p =
-    let carried = carry-some cap qs in
-    search (cut-some, carried)
+    cond-some (leb cap n) _ _ (omega arith)
+    (cond-some (ltb (n + suc (length qs)) cap) _ _ (omega arith)
+    (cond-some (apart (inside p q)) _ _ (carry-some cap qs n p)
+    (some-append (carry cap qs (suc n) (inside p q)) (each (carry cap qs n) (outsides p (inside p q))) (carry-some cap qs (suc n) (inside p q)))))
 
 pieces-some : (C : Case) (e : Place) (rs : List Entry) (r : Entry) → 1 ≤ length (pieces C e rs r)
 unfolding pieces

@@ -10,9 +10,9 @@ use borrow.Author.Tests.{lt-ltb}
 use Rattle.rules.specs.Lists.{fold}
 use Rattle.rules.specs.Refusals.{firstOf}
 use Rattle.rules.specs.Files.{Case}
-use Rattle.rules.specs.Turns.{Place, State, state, Row, items, Turn, Rules, sooner, elements, before, next, serveOne, serveAll, visit, minute, minutes, runFrom}
+use Rattle.rules.specs.Turns.{Place, State, state, Row, items, Visit, Turn, Rules, elements, behind, find, goesFirst, next, serveNext, turns, visit, minute, minutes, runFrom}
 use Rattle.rules.specs.Turns.Turn.{nobody, somebody}
-use Rattle.rules.specs.Demands.{rowsAfter, listsOne, listsAll, visitLists, visitsLists, minuteLists, minutesLists, runLists}
+use Rattle.rules.specs.Demands.{rowsAfter, turnList, turnLists, visitLists, visitsLists, minuteLists, minutesLists, runLists}
 use Rattle.theory_lists.specs.Items.{servedList, items-served}
 
 -- ---- the definitions
@@ -30,20 +30,18 @@ Splits rs nobody = Unit
 Splits rs (somebody b a c) = items rs ≡ items b ++ (a ∷ items c)
 
 module _ {A : Type 0} (C : Case) (R : Rules A) where
-  before-splits : (asking : Bool) (r : Row A) (rs : List (Row A)) (u : Turn A) → Splits rs u → Splits (r ∷ rs) (before C R asking r rs u)
-  before-splits false r rs nobody h = tt
-  before-splits false r rs (somebody b a c) h = ap (λ (l : List A). r .item ∷ l) h
-  before-splits true r rs nobody h = refl
-  before-splits true r rs (somebody b a c) h = go (sooner C (R .mark a) (R .mark (r .item)))
+  find-splits : (test : Row A → Bool) (rs : List (Row A)) → Splits rs (find test rs)
+  find-splits test [] = tt
+  find-splits test (r ∷ rs) = go (test r) (find test rs) (find-splits test rs)
     where
-      go : (t : Bool) → Splits (r ∷ rs) (cond t (somebody (r ∷ b) a c) (somebody [] (r .item) rs))
-      go true = ap (λ (l : List A). r .item ∷ l) h
-      go false = refl
+      go : (b : Bool) (u : Turn A) → Splits rs u → Splits (r ∷ rs) (cond b (somebody [] (r .item) rs) (behind r u))
+      go true u h = refl
+      go false nobody h = tt
+      go false (somebody b a c) h = ap (λ (l : List A). r .item ∷ l) h
 
   pub next-splits : (rs : List (Row A)) → Splits rs (next C R rs)
   unfolding next
-  next-splits [] = tt
-  next-splits (r ∷ rs) = before-splits (r .asking) r rs (next C R rs) (next-splits rs)
+  next-splits rs = find-splits (goesFirst C R rs) rs
 
   -- the list after an asker was served
   pub items-after : (t : ℕ) (e : Place) (rs b : List (Row A)) (a : A) (c : List (Row A))
@@ -83,21 +81,23 @@ module _ {A : Type 0} (C : Case) (R : Rules A) where
       ∙ first-assoc n (firstMet (map (R .check) s)) (firstMet (map (R .check) t))
       ∙ ap (firstOf (ltb 0 n) n) (sym (ap firstMet (map-append (R .check) s t) ∙ firstMet-append (map (R .check) s) (map (R .check) t)))
 
-  serveAll-met : (k t : ℕ) (e : Place) (rs : List (Row A)) (v : List A) (n : ℕ) → Adds n (listsAll C R k t e rs) (serveAll C R k t e rs v n .met)
-  unfolding serveAll listsAll
-  serveAll-met zero t e rs v n = adds-none n
-  serveAll-met (suc k) t e rs v n = go (next C R rs) (serveAll-met k t e)
-    where
-      go : (u : Turn A) → ((rs : List (Row A)) (v : List A) (n : ℕ) → Adds n (listsAll C R k t e rs) (serveAll C R k t e rs v n .met))
-          → Adds n (listsOne C R t e (listsAll C R k t e) rs u) (serveOne C R t e (serveAll C R k t e) rs v n u .met)
-      go nobody ih = adds-none n
-      go (somebody b a c) ih = ih (rowsAfter C R t e rs b a c) _ _ ∙ first-assoc n (R .check (items (rowsAfter C R t e rs b a c))) _
+  -- an asker served adds what the list after it is refused for
+  turn-met : (t : ℕ) (e : Place) (v : Visit A) (u : Turn A) → Adds (v .met) (turnList C R t e (v .rows) u) (serveNext C R t e v u .met)
+  turn-met t e v nobody = adds-none (v .met)
+  turn-met t e v (somebody b a c) = ap (firstOf (ltb 0 (v .met)) (v .met)) (sym (first-none (R .check (items (rowsAfter C R t e (v .rows) b a c)))))
+
+  turns-met : (k t : ℕ) (e : Place) (v : Visit A) → Adds (v .met) (turnLists C R k t e v) (turns C R k t e v .met)
+  unfolding turns turnLists
+  turns-met zero t e v = adds-none (v .met)
+  turns-met (suc k) t e v =
+      let u = next C R (v .rows) in
+      adds-then (v .met) _ _ (turnList C R t e (v .rows) u) (turnLists C R k t e (serveNext C R t e v u)) (turn-met t e v u) (turns-met k t e (serveNext C R t e v u))
 
   visits-met : (t : ℕ) (es : List Place) (s : State A) → Adds (s .met) (visitsLists C R t es s) (fold (visit C R t) es s .met)
   unfolding visitLists visit
   visits-met t [] s = adds-none (s .met)
   visits-met t (e ∷ es) s =
-      adds-then (s .met) _ _ (visitLists C R t e s) (visitsLists C R t es (visit C R t e s)) (serveAll-met _ t e _ (s .arrived) (s .met)) (visits-met t es (visit C R t e s))
+      adds-then (s .met) _ _ (visitLists C R t e s) (visitsLists C R t es (visit C R t e s)) (turns-met _ t e _) (visits-met t es (visit C R t e s))
 
   minutes-met : (n : ℕ) (s : State A) → Adds (s .met) (minutesLists C R n s) (minutes C R n s .met)
   unfolding minutes minutesLists minute minuteLists

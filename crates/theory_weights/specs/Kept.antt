@@ -6,10 +6,10 @@ use mathlib.Core.List.{List, [], _∷_, _++_}
 use Prim.Native.Nat.{ℕ, zero, suc}
 use Rattle.rules.specs.Lists.{fold}
 use Rattle.rules.specs.Files.{Case}
-use Rattle.rules.specs.Turns.{Place, Served, State, state, Row, items, Turn, Rules, ended, asks, elements, next, serveOne, serveAll, visit, minute, minutes, runFrom}
+use Rattle.rules.specs.Turns.{Place, Served, State, state, Row, items, Visit, left, Turn, Rules, ended, asks, elements, next, serveNext, turns, visit, minute, minutes, runFrom}
 use Rattle.rules.specs.Turns.Turn.{nobody, somebody}
 use Rattle.rules.specs.Joint.{whole, firstList, jointRules}
-use Rattle.rules.specs.Demands.{rowsAfter, listsOne, listsAll, visitLists, visitsLists, minuteLists, minutesLists, runLists}
+use Rattle.rules.specs.Demands.{rowsAfter, turnList, turnLists, visitLists, visitsLists, minuteLists, minutesLists, runLists}
 use Rattle.theory_sound.specs.Facts.{Sound}
 use Rattle.theory_simulation.specs.Parts.{Parts}
 use Rattle.theory_simulation.specs.Serving.{Proper, pieces-proper, serve-covers}
@@ -48,26 +48,29 @@ module _ {A : Type 0} (C : Case) (R : Rules A) (p : A → Type 0) (keeps : Keeps
       new : Served A
       new = R .serve t e (items rs) a
 
-  serveAll-kept : (k t : ℕ) (e : Place) (rs : List (Row A)) (v : List A) (n : ℕ) → Every p (items rs) → Every p v
-      → KeptAll p (listsAll C R k t e rs) (serveAll C R k t e rs v n)
-  unfolding serveAll listsAll
-  serveAll-kept zero t e rs v n h g = record { lists = tt; list = h; arrived = g }
-  serveAll-kept (suc k) t e rs v n h g = go (next C R rs) (next-splits C R rs) (serveAll-kept k t e)
+  -- the lists and the state that a visit comes to
+  abbrev Visited : List (List A) → Visit A → Type 0
+  Visited ls v = KeptAll p ls (left v)
+
+  turns-kept : (k t : ℕ) (e : Place) (v : Visit A) → Every p (items (v .rows)) → Every p (v .arrived) → Visited (turnLists C R k t e v) (turns C R k t e v)
+  unfolding turns turnLists
+  turns-kept zero t e v h g = record { lists = tt; list = h; arrived = g }
+  turns-kept (suc k) t e v h g = go (next C R (v .rows)) (next-splits C R (v .rows)) (turns-kept k t e)
     where
-      go : (u : Turn A) → Splits rs u
-          → ((rs : List (Row A)) (v : List A) (n : ℕ) → Every p (items rs) → Every p v → KeptAll p (listsAll C R k t e rs) (serveAll C R k t e rs v n))
-          → KeptAll p (listsOne C R t e (listsAll C R k t e) rs u) (serveOne C R t e (serveAll C R k t e) rs v n u)
-      go nobody split ih = record { lists = tt; list = h; arrived = g }
+      go : (u : Turn A) → Splits (v .rows) u
+          → ((w : Visit A) → Every p (items (w .rows)) → Every p (w .arrived) → Visited (turnLists C R k t e w) (turns C R k t e w))
+          → Visited (turnList C R t e (v .rows) u ++ turnLists C R k t e (serveNext C R t e v u)) (turns C R k t e (serveNext C R t e v u))
+      go nobody split ih = ih v h g
       go (somebody b a c) split ih =
           let l : Every p (items b ++ (a ∷ items c)) = subst (Every p) split h in
-          let s = keeps t e (items rs) a h (every-right p (items b) (a ∷ items c) l .0) in
-          let q = after-kept t e rs b a c split h in
-          let r = ih (rowsAfter C R t e rs b a c) _ _ q (every-append p v _ g (s .arrived)) in
+          let s = keeps t e (items (v .rows)) a h (every-right p (items b) (a ∷ items c) l .0) in
+          let q = after-kept t e (v .rows) b a c split h in
+          let r = ih (serveNext C R t e v (somebody b a c)) q (every-append p (v .arrived) _ g (s .arrived)) in
           record { lists = (q, r .lists); list = r .list; arrived = r .arrived }
 
   visit-kept : (t : ℕ) (e : Place) (s : State A) → Every p (s .list) → Every p (s .arrived) → KeptAll p (visitLists C R t e s) (visit C R t e s)
   unfolding visit visitLists
-  visit-kept t e s h g = serveAll-kept _ t e _ (s .arrived) (s .met) (subst (Every p) (sym (items-start (λ a. asks C t e (R .mark a)) (s .list))) h) g
+  visit-kept t e s h g = turns-kept _ t e _ (subst (Every p) (sym (items-start (λ a. asks C t e (R .mark a)) (s .list))) h) g
 
   visits-kept : (t : ℕ) (es : List Place) (s : State A) → Every p (s .list) → Every p (s .arrived) → KeptAll p (visitsLists C R t es s) (fold (visit C R t) es s)
   visits-kept t [] s h g = record { lists = tt; list = h; arrived = g }

@@ -9,7 +9,7 @@ use lib.Dec.{leb}
 use borrow.Author.Tests.{leb-true, leb-false}
 use Rattle.rules.specs.Lists.{fold}
 use Rattle.rules.specs.Files.{Case}
-use Rattle.rules.specs.Turns.{Place, same, served, State, Row, Turn, Rules, lastStation, entered, arriving, elements, next, serveOne, serveAll, visit, minute, minutes, runFrom}
+use Rattle.rules.specs.Turns.{Place, same, served, State, Visit, Turn, Rules, lastStation, entered, arriving, elements, next, serveNext, turns, visit, minute, minutes, runFrom}
 use Rattle.rules.specs.Turns.Turn.{nobody, somebody}
 use Rattle.rules.specs.Single.{enters, serveTrain, singleRules, firstMarks, single}
 use Rattle.theory_lists.specs.Every.{Every, every-append, every-more, every-one}
@@ -49,19 +49,19 @@ module _ {A : Type 0} (C : Case) (R : Rules A) (prompt : Prompt R) where
   abbrev InMinute : ℕ → List A → List A → Type 0
   InMinute t = Grown (λ a. R .mark a .minute ≡ t)
 
-  serveAll-logs : (k t : ℕ) (e : Place) (rs : List (Row A)) (v : List A) (n : ℕ) → InMinute t v (serveAll C R k t e rs v n .arrived)
-  unfolding serveAll
-  serveAll-logs zero t e rs v n = grown-not v
-  serveAll-logs (suc k) t e rs v n = go (next C R rs) (serveAll-logs k t e)
+  turns-log : (k t : ℕ) (e : Place) (v : Visit A) → InMinute t (v .arrived) (turns C R k t e v .arrived)
+  unfolding turns
+  turns-log zero t e v = grown-not (v .arrived)
+  turns-log (suc k) t e v = go (next C R (v .rows)) (turns-log k t e)
     where
-      go : (u : Turn A) → ((rs : List (Row A)) (v : List A) (n : ℕ) → InMinute t v (serveAll C R k t e rs v n .arrived))
-          → InMinute t v (serveOne C R t e (serveAll C R k t e) rs v n u .arrived)
-      go nobody ih = grown-not v
-      go (somebody b a c) ih = grown-then (grown-by v _ (prompt t e _ a)) (ih _ _ _)
+      go : (u : Turn A) → ((w : Visit A) → InMinute t (w .arrived) (turns C R k t e w .arrived))
+          → InMinute t (v .arrived) (turns C R k t e (serveNext C R t e v u) .arrived)
+      go nobody ih = ih v
+      go (somebody b a c) ih = grown-then (grown-by (v .arrived) _ (prompt t e _ a)) (ih _)
 
   visit-logs : (t : ℕ) (e : Place) (s : State A) → InMinute t (s .arrived) (visit C R t e s .arrived)
   unfolding visit
-  visit-logs t e s = serveAll-logs _ t e _ (s .arrived) (s .met)
+  visit-logs t e s = turns-log _ t e _
 
   visits-log : (t : ℕ) (es : List Place) (s : State A) → InMinute t (s .arrived) (fold (visit C R t) es s .arrived)
   visits-log t [] s = grown-not (s .arrived)
