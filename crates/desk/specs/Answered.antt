@@ -7,7 +7,7 @@ use native.Mathlib.Omega.{arith}
 use lib.ListN.{length, getD, take, drop, replicate, drop-of-length-le}
 use lib.Seq.{length-take-le}
 use Rattle.rules.specs.Files.{Case}
-use Rattle.rules.specs.Turns.{State}
+use Rattle.rules.specs.Turns.{State, Arrival}
 use Rattle.rules.specs.Joint.{Entry, joint, total}
 use Rattle.rules.specs.Listing.{listing}
 use Rattle.rules.specs.Figures as rules
@@ -91,7 +91,7 @@ module _ (tb ws : List ℕ) (k : ℕ) {p m n w : ℕ} (planned : p ≡ getD tb (
     omega (arith, h .plan),
   )
 
-  pub measure-gives : (L : ℕ) {r : Figures} → ((C : Case) (v : List Entry) → Holds C v ws k p m w → r ≡ figuresAnswer (rules.figures C v k L)) → Measured tb ws k L r
+  pub measure-gives : (L : ℕ) {r : Figures} → ((C : Case) (v : List (Arrival Entry)) → Holds C v ws k p m w → r ≡ figuresAnswer (rules.figures C v k L)) → Measured tb ws k L r
   measure-gives L g C v h =
       g C v (record { weights = h .weights; planned = planned ∙ h .planned; window = last ∙ h .window; whole = whole-looked ∙ h .whole })
 

@@ -7,6 +7,7 @@ use Rattle.rules.specs.Lists.{each}
 use Rattle.rules.specs.Refusals.{Result, refuse, then}
 use Rattle.rules.specs.Refusals.Result.{refused, answer}
 use Rattle.rules.specs.Files.{Case, files}
+use Rattle.rules.specs.Turns.{Arrival}
 use Rattle.rules.specs.Joint.{Entry, joint}
 use Rattle.rules.specs.Calls.{Run, runTo, rowImage, weightsImage, filled}
 use Rattle.rules.specs.Listing.{listing}
@@ -113,7 +114,7 @@ pub record Printable (tables : List ℕ) : Type 0 where
 -- the text holds the listing of the weights in the words, and the answer is its length
 abbrev pub Printed : List ℕ → List ℕ → List ℕ → Answer → List ℕ → Type 0
 Printed tables ws text a text′ =
-    (C : Case) (v : List Entry) → Weighs C v (getD tables 0 0) (getD tables 1 0) ws → length (listing C v) ≤ 32768
+    (C : Case) (v : List (Arrival Entry)) → Weighs C v (getD tables 0 0) (getD tables 1 0) ws → length (listing C v) ≤ 32768
     → (a ≡ answered (length (listing C v))) × (text′ ≡ filled 32768 (listing C v) text)
 
 -- train and weights in range
@@ -125,5 +126,5 @@ pub record Measurable (tables ws : List ℕ) (k : ℕ) : Type 0 where
 -- the figures of the weights in the words
 abbrev pub Measured : List ℕ → List ℕ → ℕ → ℕ → Figures → Type 0
 Measured tables ws k limit r =
-    (C : Case) (v : List Entry) → Holds C v ws k (getD tables (24 + k) 0) (getD tables 1 0) (100 ^ getD tables 0 0)
+    (C : Case) (v : List (Arrival Entry)) → Holds C v ws k (getD tables (24 + k) 0) (getD tables 1 0) (100 ^ getD tables 0 0)
     → r ≡ figuresAnswer (rules.figures C v k limit)

@@ -12,7 +12,7 @@ use lib.Dec.{eqb}
 use borrow.Author.Tests.{eq-eqb, ne-eqb, eqb-true, eqb-false}
 use Rattle.rules.specs.Lists.{one, each, keep, sum}
 use Rattle.rules.specs.Files.{Stop, Case, lastOf}
-use Rattle.rules.specs.Turns.{Place, same, capacity, lastStation, State}
+use Rattle.rules.specs.Turns.{Place, same, capacity, lastStation, State, Arrival}
 use Rattle.rules.specs.Turns.Place.{gone}
 use Rattle.rules.specs.Single.{pairAt}
 use Rattle.rules.specs.Joint.{Cover, Entry, Piece, piece, carry, meets, weight, weightAt, whole}
@@ -199,7 +199,7 @@ module _ (C : Case) where
 -- ---- the list of weights
 
 -- the weights v are those of the arrivals vs, as the machine sums them: train k's in minute t at k · 720 + t
-pub record Weighs (C : Case) (v : List ℕ) (vs : List Entry) : Type 0 where
+pub record Weighs (C : Case) (v : List ℕ) (vs : List (Arrival Entry)) : Type 0 where
   pub size : length v ≡ 5760
   pub each : (k t : ℕ) → k < 8 → t < 720 → getD v (k * 720 + t) 0 ≡ weightAt C vs k t % 2 ^ 64
 

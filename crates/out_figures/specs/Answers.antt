@@ -7,6 +7,7 @@ use Prim.Native.Nat.{ℕ, _≤_}
 use lib.IntN.{pos}
 use lib.Ieee.{Float, fin}
 use Rattle.rules.specs.Files.{Case}
+use Rattle.rules.specs.Turns.{Arrival}
 use Rattle.rules.specs.Joint.{Entry, total, weightAt}
 use Rattle.rules.specs.Figures as rules
 use Rattle.rules.specs.Figures.Punctuality.{never, always, share}
@@ -49,7 +50,7 @@ abbrev pub noFigures : Figures
 noFigures = record { punctuality = Refused; shares = record { «on_time» = none; late = none; «not_arrived» = none }; sum = 0; weight = 0 }
 
 -- the words hold what has arrived of train k, and plan, last minute and whole are the case's
-pub record Holds (C : Case) (arrived : List Entry) (ws : List ℕ) (k plan last total : ℕ) : Type 0 where
+pub record Holds (C : Case) (arrived : List (Arrival Entry)) (ws : List ℕ) (k plan last total : ℕ) : Type 0 where
   pub weights : (t : ℕ) → t ≤ C .head .lastMinute → wordOf ws k t ≡ weightAt C arrived k t
   pub planned : plan ≡ rules.plan C k
   pub window : last ≡ C .head .lastMinute

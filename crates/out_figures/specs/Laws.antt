@@ -10,6 +10,7 @@ use lib.Dec.{leb, ltb}
 use borrow.Author.Tests.{leb-true, leb-false, le-leb, lt-leb, le-ltb, lt-ltb}
 use Rattle.rules.specs.Lists.{tick, sum, span, below}
 use Rattle.rules.specs.Files.{Case}
+use Rattle.rules.specs.Turns.{Arrival}
 use Rattle.rules.specs.Joint.{Entry, weightAt}
 use Rattle.rules.specs.Listing.{notArrived}
 use Rattle.rules.specs.Figures.{plan, weightIn, onTime, late, latenessSum, latenessWeight, punctuality, shares, figures}
@@ -109,7 +110,7 @@ module _ (ws : List ℕ) (k last : ℕ) where
 
 -- ---- the figures of a case
 
-module _ (C : Case) (arrived : List Entry) (ws : List ℕ) (k p last whole : ℕ) (h : Holds C arrived ws k p last whole) where
+module _ (C : Case) (arrived : List (Arrival Entry)) (ws : List ℕ) (k p last whole : ℕ) (h : Holds C arrived ws k p last whole) where
   -- a sum over the words of the window is a sum over the weights that have arrived
   over : (g : ℕ → ℕ → ℕ) → sum (λ t. g t (wordOf ws k t)) (below (suc last)) ≡ sum (λ t. g t (weightAt C arrived k t)) (below (suc (C .head .lastMinute)))
   over g =

@@ -4,6 +4,7 @@ ghost use mathlib.Core.Path.{_≡_};
 ghost use mathlib.Core.List.{List};
 ghost use Prim.Native.Nat.{_+_, _*_, _≤_, _<_};
 ghost use Rattle.rules.specs.Files.{Case};
+ghost use Rattle.rules.specs.Turns.{Arrival};
 ghost use Rattle.rules.specs.Joint.{Entry};
 ghost use Rattle.rules.specs.Figures.{figures, double};
 ghost use Rattle.out_figures.specs.Sums.{onTimeWeight, lateWeight, lateness, judgement, sharesIn, figuresIn, Weighed};
@@ -138,7 +139,7 @@ fn shares_of(on: u64, after: u64, total: u64) -> Shares
 pub fn figures_of(weights: &[u64], k: u64, plan: u64, last: u64, total: u64, limit: u16) -> Figures
     requires { ⌜ Weighed (now weights) k last total × (plan ≤ 719) ⌝ }
     ensures words { λ r. ⌜ r ≡ figuresAnswer (figuresIn (now (weights .entry)) k plan last total limit) ⌝ }
-    ensures case { λ r. ⌜ ((C : Case) (arrived : List Entry) → Holds C arrived (now (weights .entry)) k plan last total → r ≡ figuresAnswer (figures C arrived k limit)) ⌝ }
+    ensures case { λ r. ⌜ ((C : Case) (arrived : List (Arrival Entry)) → Holds C arrived (now (weights .entry)) k plan last total → r ≡ figuresAnswer (figures C arrived k limit)) ⌝ }
 {
     let end = plan + limit as u64;
     let on = on_time(weights, k, last, end);

@@ -7,7 +7,7 @@ use lib.ListN.{length, getD, take}
 use lib.Dec.{ltb}
 use Rattle.rules.specs.Lists.{each, below}
 use Rattle.rules.specs.Files.{Case, mostTrains}
-use Rattle.rules.specs.Turns.{kindOf, numberOf}
+use Rattle.rules.specs.Turns.{kindOf, numberOf, Arrival}
 use Rattle.rules.specs.Joint.{Cover, Entry, weightAt}
 use Rattle.rules.specs.Calls.{bytes, setImage}
 use Rattle.theory_lists.specs.Every.{Every}
@@ -76,6 +76,6 @@ pub record Held (n : ℕ) (es : List Entry) (rows : List ℕ) : Type 0 where
   pub small : Every (SmallEntry n) es
 
 -- the words are the weights of train k in minute t, at k · 720 + t, of the arrivals
-pub record Weighed (C : Case) (arrived : List Entry) (ws : List ℕ) : Type 0 where
+pub record Weighed (C : Case) (arrived : List (Arrival Entry)) (ws : List ℕ) : Type 0 where
   pub long : 5040 ≤ length ws
   pub words : (k t : ℕ) → k < mostTrains → t < 720 → getD ws (k * 720 + t) 0 ≡ weightAt C arrived k t

@@ -10,8 +10,8 @@ use lib.Dec.{leb, ltb}
 use borrow.Author.Tests.{leb-true, le-leb}
 use Rattle.rules.specs.Lists.{one, each, keep, tick, sum, count}
 use Rattle.rules.specs.Files.{Case}
-use Rattle.rules.specs.Turns.{Place, same, Mark, stands, lastStation, ended, asks, leaving, entered, arriving, elements, Served}
-use Rattle.rules.specs.Joint.{Piece, Entry, entry, pieces, serveEntry, firstList, jointRules, joint}
+use Rattle.rules.specs.Turns.{Place, same, Mark, stands, lastStation, ended, asks, leaving, entered, arriving, elements, Served, dueAgain, Arrival, arrives}
+use Rattle.rules.specs.Joint.{Piece, Entry, entry, pieces, serveEntry, firstList, jointRules, joint, covered}
 use Rattle.theory_sound.specs.Facts.{Sound}
 use Rattle.theory_lists.specs.Every.{every-all}
 use Rattle.theory_lists.specs.Sums.{sum-append, count-le}
@@ -77,8 +77,8 @@ module _ (C : Case) (sound : Sound C) (t : ℕ) (e : Place) (a : Entry) where
   abbrev addedOf : List Piece → List Entry
   addedOf ps = each (λ q. map (λ m. entry m (q .cover)) (entered C t e (a .mark))) ps
 
-  abbrev arrivedOf : List Piece → List Entry
-  arrivedOf ps = each (λ q. map (λ m. entry m (q .cover)) (arriving C t e (a .mark))) ps
+  abbrev arrivedOf : List Piece → List (Arrival Entry)
+  arrivedOf ps = each (λ q. map (covered (q .cover)) (arriving C t e (a .mark))) ps
 
   -- each held piece has come in where the entry had
   count-held : (ps : List Piece) → count (entryCome C) (heldOf ps) ≡ asMany (entryCome C a) ps
@@ -97,7 +97,7 @@ module _ (C : Case) (sound : Sound C) (t : ℕ) (e : Place) (a : Entry) where
   unfolding arriving
   length-arrived ps = go (same e (lastStation C k)) ps
     where
-      go : (b : Bool) (ps : List Piece) → length (each (λ q. map (λ m. entry m (q .cover)) (one b (stands k e t))) ps) ≡ asMany b ps
+      go : (b : Bool) (ps : List Piece) → length (each (λ q. map (covered (q .cover)) (one b (arrives (stands k e (dueAgain C t k e)) t))) ps) ≡ asMany b ps
       go true [] = refl
       go true (q ∷ ps) = omega (arith, go true ps)
       go false [] = refl
@@ -141,10 +141,10 @@ module _ (C : Case) (sound : Sound C) (t : ℕ) (e : Place) (a : Entry) where
 -- ---- the run
 
 -- no more have arrived than entries of the list have come in
-abbrev Logged : Case → List Entry → List Entry → Type 0
+abbrev Logged : Case → List Entry → List (Arrival Entry) → Type 0
 Logged C l v = length v ≤ count (entryCome C) l
 
-logged-serve : (C : Case) → Sound C → (t : ℕ) (e : Place) (b : List Entry) (a : Entry) (c v : List Entry) → asks C t e (a .mark) ≡ true → Logged C (b ++ (a ∷ c)) v
+logged-serve : (C : Case) → Sound C → (t : ℕ) (e : Place) (b : List Entry) (a : Entry) (c : List Entry) (v : List (Arrival Entry)) → asks C t e (a .mark) ≡ true → Logged C (b ++ (a ∷ c)) v
     → Logged C (servedList (jointRules C .serve t e (b ++ (a ∷ c)) a) b c) (v ++ jointRules C .serve t e (b ++ (a ∷ c)) a .arrived)
 unfolding jointRules serveEntry
 logged-serve C sound t e b a c v q h =

@@ -8,6 +8,7 @@ use native.Mathlib.Omega.{arith}
 use lib.ListN.{length}
 use Rattle.rules.specs.Lists.{each, sum, below}
 use Rattle.rules.specs.Files.{Case}
+use Rattle.rules.specs.Turns.{Arrival}
 use Rattle.rules.specs.Joint.{Entry, total, weightAt}
 use Rattle.rules.specs.Listing.{minuteLine, window, notArrived, trainLines, listing}
 use Rattle.rules.specs.Calls.{filled}
@@ -18,7 +19,7 @@ use Rattle.out_images.specs.Filled.{cleared-length, cleared-filled, filled-sets
 use Rattle.theory_lists.specs.Below.{each-below-same}
 use Rattle.out_listing.specs.Text.{heldAt, minuteLines, leftOf, lastLine, linesOf, trainsLines, firstLine, textFrom, Weighs, Listed}
 
-module _ (C : Case) (v : List Entry) (ws : List ℕ) (h : Weighs C v (length (C .trains)) (C .head .lastMinute) ws) (k : ℕ) (l : k < length (C .trains)) where
+module _ (C : Case) (v : List (Arrival Entry)) (ws : List ℕ) (h : Weighs C v (length (C .trains)) (C .head .lastMinute) ws) (k : ℕ) (l : k < length (C .trains)) where
   word-at : (t : ℕ) → t < suc (C .head .lastMinute) → heldAt ws k t ≡ weightAt C v k t
   word-at t m = h .words k t l (omega arith)
 
@@ -39,7 +40,7 @@ module _ (C : Case) (v : List Entry) (ws : List ℕ) (h : Weighs C v (length (C 
   unfolding linesOf trainLines lastLine
   lines-weigh = ap₂ _++_ minutes-weigh (ap (lastLine k) left-weighs)
 
-pub text-listing : (C : Case) (v : List Entry) (trains last : ℕ) (ws : List ℕ) → Weighs C v trains last ws → textFrom trains last ws ≡ listing C v
+pub text-listing : (C : Case) (v : List (Arrival Entry)) (trains last : ℕ) (ws : List ℕ) → Weighs C v trains last ws → textFrom trains last ws ≡ listing C v
 unfolding textFrom listing firstLine trainsLines total
 text-listing C v trains last ws h =
     ap₂ (λ (n m : ℕ). textFrom n m ws) (sym (h .all-trains)) (sym (h .all-minutes))

@@ -11,6 +11,7 @@ use lib.Dec.{ltb, eqb}
 use borrow.Author.Tests.{ltb-false, ne-eqb}
 use Rattle.rules.specs.Lists.{each, keep, tick, sum, count, below}
 use Rattle.rules.specs.Files.{Case}
+use Rattle.rules.specs.Turns.{Arrival}
 use Rattle.rules.specs.Joint.{Entry, total, weight, weightAt, joint}
 use Rattle.rules.specs.Listing.{digits, decimal, line, totalWord, window, notArrived, minuteLine, trainLines, listing}
 use Rattle.theory_sound.specs.Facts.{Sound}
@@ -85,39 +86,39 @@ minute-length k t (suc w) (suc n) h l z =
 -- ---- arrivals and minutes
 
 -- the arrival is one of train k in minute t
-abbrev isOf : ℕ → ℕ → Entry → Bool
-isOf k t r = eqb (r .mark .train) k && eqb (r .mark .minute) t
+abbrev isOf : ℕ → ℕ → Arrival Entry → Bool
+isOf k t r = eqb (r .who .mark .train) k && eqb (r .minute) t
 
 -- a minute without arrivals has no weight
-weightAt-none : (C : Case) (v : List Entry) (k t : ℕ) → count (isOf k t) v ≡ 0 → weightAt C v k t ≡ 0
+weightAt-none : (C : Case) (v : List (Arrival Entry)) (k t : ℕ) → count (isOf k t) v ≡ 0 → weightAt C v k t ≡ 0
 unfolding weightAt
 weightAt-none C v k t h = go (keep (isOf k t) v) (length-keep (isOf k t) v ∙ h)
   where
-    go : (l : List Entry) → length l ≡ 0 → sum (λ r. weight C (r .cover)) l ≡ 0
+    go : (l : List (Arrival Entry)) → length l ≡ 0 → sum (λ r. weight C (r .who .cover)) l ≡ 0
     go [] z = refl
     go (r ∷ l) z = absurd (omega arith)
 
 -- an arrival counts for one train and one minute at most
-counted-once : (n m : ℕ) (r : Entry) → sum (λ k. sum (λ t. tick (isOf k t r)) (below m)) (below n) ≤ 1
+counted-once : (n m : ℕ) (r : Arrival Entry) → sum (λ k. sum (λ t. tick (isOf k t r)) (below m)) (below n) ≤ 1
 counted-once n m r =
     omega (
       arith,
-      sum-less (λ k. sum (λ t. tick (isOf k t r)) (below m)) (λ k. tick (eqb (r .mark .train) k)) (λ k. minutes (eqb (r .mark .train) k)) (below n),
-      sum-below-le (λ k. tick (eqb (r .mark .train) k)) (r .mark .train) (λ k q. ap tick (ne-eqb (r .mark .train) k (λ e. q (sym e)))) n,
-      tick-le (eqb (r .mark .train) (r .mark .train)),
+      sum-less (λ k. sum (λ t. tick (isOf k t r)) (below m)) (λ k. tick (eqb (r .who .mark .train) k)) (λ k. minutes (eqb (r .who .mark .train) k)) (below n),
+      sum-below-le (λ k. tick (eqb (r .who .mark .train) k)) (r .who .mark .train) (λ k q. ap tick (ne-eqb (r .who .mark .train) k (λ e. q (sym e)))) n,
+      tick-le (eqb (r .who .mark .train) (r .who .mark .train)),
     )
   where
-    minutes : (b : Bool) → sum (λ t. tick (b && eqb (r .mark .minute) t)) (below m) ≤ tick b
+    minutes : (b : Bool) → sum (λ t. tick (b && eqb (r .minute) t)) (below m) ≤ tick b
     minutes true =
         omega (
           arith,
-          sum-below-le (λ t. tick (eqb (r .mark .minute) t)) (r .mark .minute) (λ t q. ap tick (ne-eqb (r .mark .minute) t (λ e. q (sym e)))) m,
-          tick-le (eqb (r .mark .minute) (r .mark .minute)),
+          sum-below-le (λ t. tick (eqb (r .minute) t)) (r .minute) (λ t q. ap tick (ne-eqb (r .minute) t (λ e. q (sym e)))) m,
+          tick-le (eqb (r .minute) (r .minute)),
         )
     minutes false = omega (arith, sum-below-le (λ t. 0) 0 (λ t q. refl) m)
 
 -- so the arrivals of all trains in all minutes are no more than there are
-counted-all : (n m : ℕ) (v : List Entry) → sum (λ k. sum (λ t. count (isOf k t) v) (below m)) (below n) ≤ length v
+counted-all : (n m : ℕ) (v : List (Arrival Entry)) → sum (λ k. sum (λ t. count (isOf k t) v) (below m)) (below n) ≤ length v
 counted-all n m [] = omega (arith, sum-below-le (λ k. sum (λ t. 0) (below m)) 0 (λ k q. none) n, none)
   where
     none : sum (λ t. 0) (below m) ≡ 0
@@ -134,7 +135,7 @@ counted-all n m (r ∷ v) =
 
 -- ---- the listing
 
-module _ (C : Case) (sound : Sound C) (v : List Entry) where
+module _ (C : Case) (sound : Sound C) (v : List (Arrival Entry)) where
   -- the lines of a train
   train-length : (k : ℕ) → k < length (C .trains) → length (trainLines C v k) ≤ 27 * sum (λ t. count (isOf k t) v) (window C) + 25
   unfolding trainLines

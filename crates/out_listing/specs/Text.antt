@@ -5,6 +5,7 @@ use Prim.Native.Nat.{ℕ, _+_, _-_, _*_, _^_, _≤_, _<_}
 use lib.ListN.{length, getD}
 use Rattle.rules.specs.Lists.{each, sum, below}
 use Rattle.rules.specs.Files.{Case}
+use Rattle.rules.specs.Turns.{Arrival}
 use Rattle.rules.specs.Joint.{Entry, weightAt}
 use Rattle.rules.specs.Listing.{decimal, line, totalWord, minuteLine, listing}
 use Rattle.rules.specs.Calls.{filled}
@@ -39,7 +40,7 @@ unfoldable pub textFrom : ℕ → ℕ → List ℕ → List ℕ
 textFrom trains last ws = firstLine (100 ^ trains) ++ trainsLines (100 ^ trains) last ws trains
 
 -- the words hold the weights of the case's arrivals
-pub record Weighs (C : Case) (arrived : List Entry) (trains last : ℕ) (ws : List ℕ) : Type 0 where
+pub record Weighs (C : Case) (arrived : List (Arrival Entry)) (trains last : ℕ) (ws : List ℕ) : Type 0 where
   pub all-trains : length (C .trains) ≡ trains
   pub all-minutes : C .head .lastMinute ≡ last
   pub words : (k t : ℕ) → k < trains → t ≤ last → heldAt ws k t ≡ weightAt C arrived k t
@@ -51,4 +52,4 @@ pub record Listed (l L : List ℕ) (r : ℕ) (l′ : List ℕ) : Type 0 where
 
 -- for each case and arrivals whose weights the words hold, text that is long enough has become their listing
 abbrev pub Prints : ℕ → ℕ → List ℕ → List ℕ → ℕ → List ℕ → Type 0
-Prints trains last ws l r l′ = (C : Case) (v : List Entry) → Weighs C v trains last ws → length (listing C v) ≤ length l → Listed l (listing C v) r l′
+Prints trains last ws l r l′ = (C : Case) (v : List (Arrival Entry)) → Weighs C v trains last ws → length (listing C v) ≤ length l → Listed l (listing C v) r l′

@@ -9,7 +9,7 @@ use lib.ListN.{length}
 use lib.Dec.{ltb, eqb}
 use Rattle.rules.specs.Lists.{one, each, keep}
 use Rattle.rules.specs.Files.{Case}
-use Rattle.rules.specs.Turns.{Place, same, Mark, capacity, elements, ended, asks, State, state, Row, row, items, quiet, Visit, visiting, Turn, Rules, next, serveNext, visit, minutes}
+use Rattle.rules.specs.Turns.{Place, same, Mark, capacity, elements, ended, asks, Arrival, arrives, State, state, Row, row, items, quiet, Visit, visiting, Turn, Rules, next, serveNext, visit, minutes}
 use Rattle.rules.specs.Turns.Place.{station, track}
 use Rattle.rules.specs.Turns.Turn.{nobody, somebody}
 use Rattle.rules.specs.Single.{trainsOn, single, arrival}
@@ -43,6 +43,10 @@ arrivesNever C k x = isNever (arrival C x k)
 unfoldable pub view : List ℕ → List Entry → List Mark
 view x rs = each (λ r. one (covers (r .cover) x) (r .mark)) rs
 
+-- the arrivals of the entries that cover the choice, in the order in which they came
+unfoldable pub arrivalsSeen : List ℕ → List (Arrival Entry) → List (Arrival Mark)
+arrivalsSeen x vs = each (λ v. one (covers (v .who .cover) x) (arrives (v .who .mark) (v .minute))) vs
+
 -- the mark is train k's, and standing
 abbrev pub isStanding : ℕ → Mark → Bool
 isStanding k m = eqb (m .train) k && not (m .blocks)
@@ -55,7 +59,7 @@ isAt k p m = eqb (m .train) k && same (m .place) p
 pub record Simulates (C : Case) (x : List ℕ) (m : ℕ) : Type 0 where
   -- the marks that the choice sees are those of its single run, in list order, and so are the arrivals
   pub list : view x (joint C m .list) ≡ single C x m .list
-  pub arrived : view x (joint C m .arrived) ≡ single C x m .arrived
+  pub arrived : arrivalsSeen x (joint C m .arrived) ≡ single C x m .arrived
   -- each train has exactly one standing entry that covers the choice, and its place and due minute are those of the single run
   pub standing : (k : ℕ) → k < length (C .trains)
       → (r : Entry) × (keep (λ a. covers (a .cover) x && isStanding k (a .mark)) (joint C m .list) ≡ r ∷ []) × (keep (isStanding k) (single C x m .list) ≡ r .mark ∷ [])

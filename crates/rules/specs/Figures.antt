@@ -7,7 +7,7 @@ use lib.IntN.{pos}
 use lib.Ieee.{Float, div, binary64, ofInt}
 use Rattle.rules.specs.Lists.{keep, sum}
 use Rattle.rules.specs.Files.{Case, lastOf}
-use Rattle.rules.specs.Turns.{trainAt}
+use Rattle.rules.specs.Turns.{trainAt, Arrival}
 use Rattle.rules.specs.Joint.{Entry, total, weightAt}
 use Rattle.rules.specs.Listing.{window, notArrived}
 
@@ -16,14 +16,14 @@ unfoldable pub plan : Case → ℕ → ℕ
 plan C k = lastOf (trainAt C k .stops) .arrival
 
 -- the weight of train k that arrives in the minutes that pass the test
-abbrev pub weightIn : Case → List Entry → ℕ → (ℕ → Bool) → ℕ
+abbrev pub weightIn : Case → List (Arrival Entry) → ℕ → (ℕ → Bool) → ℕ
 weightIn C arrived k test = sum (weightAt C arrived k) (keep test (window C))
 
 -- on time means at most L after plan
-unfoldable pub onTime : Case → List Entry → ℕ → ℕ → ℕ
+unfoldable pub onTime : Case → List (Arrival Entry) → ℕ → ℕ → ℕ
 onTime C arrived k L = weightIn C arrived k (λ t. leb t (plan C k + L))
 
-unfoldable pub late : Case → List Entry → ℕ → ℕ → ℕ
+unfoldable pub late : Case → List (Arrival Entry) → ℕ → ℕ → ℕ
 late C arrived k L = weightIn C arrived k (λ t. ltb (plan C k + L) t)
 
 -- one division of two whole numbers, both exact as doubles, rounded once
@@ -37,7 +37,7 @@ pub data Punctuality : Type 0 where
   share : Float → Punctuality
 
 -- never: no weight arrives at most L after plan; always: all weight does
-unfoldable pub punctuality : Case → List Entry → ℕ → ℕ → Punctuality
+unfoldable pub punctuality : Case → List (Arrival Entry) → ℕ → ℕ → Punctuality
 punctuality C arrived k L =
     let w = onTime C arrived k L in
     cond (eqb w 0) never (cond (eqb w (total C)) always (share (double w (total C))))
@@ -47,7 +47,7 @@ pub record Shares : Type 0 where
   pub late : Float
   pub notArrived : Float
 
-unfoldable pub shares : Case → List Entry → ℕ → ℕ → Shares
+unfoldable pub shares : Case → List (Arrival Entry) → ℕ → ℕ → Shares
 shares C arrived k L = record {
   onTime = double (onTime C arrived k L) (total C);
   late = double (late C arrived k L) (total C);
@@ -55,10 +55,10 @@ shares C arrived k L = record {
 }
 
 -- the mean lateness of the arrived as two whole numbers, sum and weight
-unfoldable pub latenessSum : Case → List Entry → ℕ → ℕ
+unfoldable pub latenessSum : Case → List (Arrival Entry) → ℕ → ℕ
 latenessSum C arrived k = sum (λ t. (t - plan C k) * weightAt C arrived k t) (window C)
 
-unfoldable pub latenessWeight : Case → List Entry → ℕ → ℕ
+unfoldable pub latenessWeight : Case → List (Arrival Entry) → ℕ → ℕ
 latenessWeight C arrived k = sum (weightAt C arrived k) (window C)
 
 pub record Figures : Type 0 where
@@ -67,7 +67,7 @@ pub record Figures : Type 0 where
   pub sum : ℕ
   pub weight : ℕ
 
-unfoldable pub figures : Case → List Entry → ℕ → ℕ → Figures
+unfoldable pub figures : Case → List (Arrival Entry) → ℕ → ℕ → Figures
 figures C arrived k L = record {
   punctuality = punctuality C arrived k L;
   shares = shares C arrived k L;

@@ -8,7 +8,7 @@ use Rattle.rules.specs.Lists.{one, each, keep, any, sum, below, has}
 use Rattle.rules.specs.Refusals.{_when_, verdict}
 use Rattle.rules.specs.Refusals.Fault.{noRoom, tooHeavy}
 use Rattle.rules.specs.Files.{Case}
-use Rattle.rules.specs.Turns.{Place, same, Mark, capacity, entered, arriving, Served, served, State, Rules, runFrom}
+use Rattle.rules.specs.Turns.{Place, same, Mark, capacity, entered, Arrival, arrives, arriving, Served, served, State, Rules, runFrom}
 use Rattle.rules.specs.Turns.Place.{gone}
 use Rattle.rules.specs.Single.{pairAt, waits}
 
@@ -126,6 +126,10 @@ unfoldable pub pieces : Case → Place → List Entry → Entry → List Piece
 pieces C e rs r =
     cond (same e gone) (piece (r .cover) false ∷ []) (carry (capacity C e) (meets e (r .mark .train) rs) 0 (r .cover))
 
+-- the arrival of a piece with the cover p
+abbrev pub covered : Cover → Arrival Mark → Arrival Entry
+covered p v = arrives (entry (v .who) p) (v .minute)
+
 -- held pieces replace the asking entry in its row, minute unchanged; then each entering piece adds at the end its standing entry and its block
 unfoldable pub serveEntry : Case → ℕ → Place → List Entry → Entry → Served Entry
 serveEntry C t e rs r =
@@ -134,7 +138,7 @@ serveEntry C t e rs r =
     served
     (map (λ q. entry (r .mark) (q .cover)) (keep (λ q. q .held) ps))
     (each (λ q. map (λ m. entry m (q .cover)) (entered C t e (r .mark))) entering)
-    (each (λ q. map (λ m. entry m (q .cover)) (arriving C t e (r .mark))) entering)
+    (each (λ q. map (covered (q .cover)) (arriving C t e (r .mark))) entering)
 
 -- 12: the list has more entries than the room; 13: weight of an entry passes 10^14
 unfoldable pub checkList : Case → List Entry → ℕ
@@ -149,6 +153,6 @@ unfoldable pub joint : Case → ℕ → State Entry
 joint C m = runFrom C (jointRules C) (firstList C) m
 
 -- the weight that has arrived for train k in minute t
-unfoldable pub weightAt : Case → List Entry → ℕ → ℕ → ℕ
+unfoldable pub weightAt : Case → List (Arrival Entry) → ℕ → ℕ → ℕ
 weightAt C arrived k t =
-    sum (λ r. weight C (r .cover)) (keep (λ r. eqb (r .mark .train) k && eqb (r .mark .minute) t) arrived)
+    sum (λ v. weight C (v .who .cover)) (keep (λ v. eqb (v .who .mark .train) k && eqb (v .minute) t) arrived)

@@ -7,6 +7,7 @@ use lib.Dec.{ltb}
 use Rattle.rules.specs.Lists.{each, sum, below}
 use Rattle.rules.specs.Refusals.{Refusal}
 use Rattle.rules.specs.Files.{Case}
+use Rattle.rules.specs.Turns.{Arrival}
 use Rattle.rules.specs.Joint.{Entry, total, weightAt}
 
 -- decimal digits, the highest first, of a number below 10 to the n
@@ -37,7 +38,7 @@ abbrev pub window : Case → List ℕ
 window C = below (suc (C .head .lastMinute))
 
 -- the weight of choices in which train k has not arrived by T
-unfoldable pub notArrived : Case → List Entry → ℕ → ℕ
+unfoldable pub notArrived : Case → List (Arrival Entry) → ℕ → ℕ
 notArrived C arrived k = total C - sum (weightAt C arrived k) (window C)
 
 -- number, minute, weight, where there is weight
@@ -46,12 +47,12 @@ minuteLine k t zero = []
 minuteLine k t (suc w) = line (decimal k ∷ decimal t ∷ decimal (suc w) ∷ [])
 
 -- a line for each minute with weight, rising; then number, `-`, and the weight not arrived, always
-unfoldable pub trainLines : Case → List Entry → ℕ → List ℕ
+unfoldable pub trainLines : Case → List (Arrival Entry) → ℕ → List ℕ
 trainLines C arrived k =
     each (λ t. minuteLine k t (weightAt C arrived k t)) (window C)
     ++ line (decimal k ∷ (45 ∷ []) ∷ decimal (notArrived C arrived k) ∷ [])
 
-unfoldable pub listing : Case → List Entry → List ℕ
+unfoldable pub listing : Case → List (Arrival Entry) → List ℕ
 listing C arrived = line (totalWord ∷ decimal (total C) ∷ []) ++ each (trainLines C arrived) (below (length (C .trains)))
 
 -- a refused case prints `refused`, number, file, place on one line

@@ -7,7 +7,7 @@ use lib.ListN.{length, getD}
 use lib.Dec.{ltb, eqb}
 use Rattle.rules.specs.Lists.{any, count, below}
 use Rattle.rules.specs.Files.{Stop, Pair, Case}
-use Rattle.rules.specs.Turns.{Place, same, Mark, stands, trainAt, capacity, entered, arriving, Served, served, State, Rules, runFrom}
+use Rattle.rules.specs.Turns.{Place, same, Mark, stands, trainAt, capacity, entered, Arrival, arriving, Served, served, State, Rules, runFrom}
 use Rattle.rules.specs.Turns.Place.{outside, gone}
 
 -- a choice takes one pair from each train's table: it is the list of their indices, counted from 0
@@ -45,9 +45,9 @@ singleRules C = record { mark = λ m. m; serve = serveTrain C; check = λ ms. 0 
 unfoldable pub single : Case → List ℕ → ℕ → State Mark
 single C x t = runFrom C (singleRules C) (firstMarks C x) t
 
-abbrev pub minuteOf : ℕ → List Mark → Option ℕ
+abbrev pub minuteOf : ℕ → List (Arrival Mark) → Option ℕ
 minuteOf k [] = none
-minuteOf k (m ∷ ms) = cond (eqb (m .train) k) (some (m .minute)) (minuteOf k ms)
+minuteOf k (v ∷ vs) = cond (eqb (v .who .train) k) (some (v .minute)) (minuteOf k vs)
 
 -- a train's minute of arrival, or none by T
 unfoldable pub arrival : Case → List ℕ → ℕ → Option ℕ

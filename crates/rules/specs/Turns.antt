@@ -138,9 +138,17 @@ leaving C t m = one (not (same (m .place) outside)) (block (m .train) (m .place)
 unfoldable pub entered : Case → ℕ → Place → Mark → List Mark
 entered C t e m = stands (m .train) e (dueAgain C t (m .train) e) ∷ leaving C t m
 
+-- an arrival: who stands in its train's last station, and the minute in which it entered
+pub record Arrival (A : Type 0) : Type 0 where
+  pub who : A
+  pub minute : ℕ
+
+abbrev pub arrives : {A : Type 0} → A → ℕ → Arrival A
+arrives a t = record { who = a; minute = t }
+
 -- the arrival of a mark that enters e at t, if e is its train's last station
-unfoldable pub arriving : Case → ℕ → Place → Mark → List Mark
-arriving C t e m = one (same e (lastStation C (m .train))) (stands (m .train) e t)
+unfoldable pub arriving : Case → ℕ → Place → Mark → List (Arrival Mark)
+arriving C t e m = one (same e (lastStation C (m .train))) (arrives (stands (m .train) e (dueAgain C t (m .train) e)) t)
 
 -- ---- one asker after another
 
@@ -148,18 +156,18 @@ arriving C t e m = one (same e (lastStation C (m .train))) (stands (m .train) e 
 pub record Served (A : Type 0) : Type 0 where
   pub rows : List A
   pub added : List A
-  pub arrived : List A
+  pub arrived : List (Arrival A)
 
-abbrev pub served : {A : Type 0} → List A → List A → List A → Served A
+abbrev pub served : {A : Type 0} → List A → List A → List (Arrival A) → Served A
 served r a v = record { rows = r; added = a; arrived = v }
 
 -- a run between two minutes: the list, what has arrived so far, and the refusal that was met first (0: none)
 pub record State (A : Type 0) : Type 0 where
   pub list : List A
-  pub arrived : List A
+  pub arrived : List (Arrival A)
   pub met : ℕ
 
-abbrev pub state : {A : Type 0} → List A → List A → ℕ → State A
+abbrev pub state : {A : Type 0} → List A → List (Arrival A) → ℕ → State A
 state l v n = record { list = l; arrived = v; met = n }
 
 -- a row of the list while an element is visited, and whether it has yet to be served
@@ -179,10 +187,10 @@ quiet l = map (λ a. row a false) l
 -- a visit of an element between two askers: the rows, what has arrived so far, and the refusal that was met first (0: none)
 pub record Visit (A : Type 0) : Type 0 where
   pub rows : List (Row A)
-  pub arrived : List A
+  pub arrived : List (Arrival A)
   pub met : ℕ
 
-abbrev pub visiting : {A : Type 0} → List (Row A) → List A → ℕ → Visit A
+abbrev pub visiting : {A : Type 0} → List (Row A) → List (Arrival A) → ℕ → Visit A
 visiting rs v n = record { rows = rs; arrived = v; met = n }
 
 -- the state that a visit leaves

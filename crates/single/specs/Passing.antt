@@ -12,7 +12,7 @@ use lib.Dec.{ltb, eqb}
 use borrow.Author.Tests.{eq-eqb, ne-eqb}
 use Rattle.rules.specs.Lists.{one, each, tick, sum, keep, below}
 use Rattle.rules.specs.Files.{Case}
-use Rattle.rules.specs.Turns.{Place, same, Mark, stands, lastStation, asks, entered, arriving, State}
+use Rattle.rules.specs.Turns.{Place, same, Mark, stands, lastStation, asks, entered, arriving, State, dueAgain, Arrival, arrives}
 use Rattle.rules.specs.Single.{minuteOf}
 use Rattle.theory_lists.specs.Tests.{and-true-first}
 use Rattle.theory_lists.specs.Sums.{sum-keep, sum-append, sum-each, sum-plus, sum-zero, sum-ones}
@@ -83,15 +83,19 @@ module _ (C : Case) (t : ℕ) (p : Place) (k : ℕ) (low : k < length (C .trains
 
   -- ---- who arrives
 
-  abbrev arrivals : List Mark
+  -- the arrival of train k
+  abbrev home : Arrival Mark
+  home = arrives (stands k p (dueAgain C t k p)) t
+
+  abbrev arrivals : List (Arrival Mark)
   arrivals = each (arriving C t p) (keep (goes C t p k (s .list)) (s .list))
 
-  arrivals-same : Every (λ m. m ≡ stands k p t) arrivals
+  arrivals-same : Every (λ v. v ≡ home) arrivals
   unfolding arriving goes
   arrivals-same =
-      every-each (λ m. goes C t p k (s .list) m ≡ true) (λ m. m ≡ stands k p t) (arriving C t p)
-      (λ m q. every-one (λ a. a ≡ stands k p t) (same p (lastStation C (m .train))) (stands (m .train) p t)
-      (λ r. ap (λ (j : ℕ). stands j p t) (asksFor-train C t p k m (and-true-first (asksFor C t p k m) (admits C p (s .list)) q))))
+      every-each (λ m. goes C t p k (s .list) m ≡ true) (λ v. v ≡ home) (arriving C t p)
+      (λ m q. every-one (λ v. v ≡ home) (same p (lastStation C (m .train))) (arrives (stands (m .train) p (dueAgain C t (m .train) p)) t)
+      (λ r. ap (λ (j : ℕ). arrives (stands j p (dueAgain C t j p)) t) (asksFor-train C t p k m (and-true-first (asksFor C t p k m) (admits C p (s .list)) q))))
       (keep (goes C t p k (s .list)) (s .list)) (keep-passes (goes C t p k (s .list)) (s .list))
 
   abbrev arrivedTerm : Mark → ℕ
@@ -117,14 +121,14 @@ module _ (C : Case) (t : ℕ) (p : Place) (k : ℕ) (low : k < length (C .trains
       mul-none : (x : ℕ) → x * 0 ≡ 0
       mul-none x = omega arith
 
-      ones : (b : Bool) (m : Mark) → sum (λ a. 1) (one b m) ≡ tick b
-      ones true m = refl
-      ones false m = refl
+      ones : (b : Bool) (v : Arrival Mark) → sum (λ a. 1) (one b v) ≡ tick b
+      ones true v = refl
+      ones false v = refl
 
       last : arrivedTerm (standsIn w k) + 0 ≡ tick going * tick (same p (lastStation C k))
       last =
           let e : arrivedTerm (standsIn w k) ≡ tick going * tick (same p (lastStation C k)) =
-          ap₂ (λ (z : Bool) (x : ℕ). tick z * x) goes-own (ones (same p (lastStation C k)) (stands k p t))
+          ap₂ (λ (z : Bool) (x : ℕ). tick z * x) goes-own (ones (same p (lastStation C k)) home)
           in
           omega arith
 
@@ -135,7 +139,7 @@ module _ (C : Case) (t : ℕ) (p : Place) (k : ℕ) (low : k < length (C .trains
   pass-arrived j =
       minuteOf-append j (s .arrived) arrivals
       ∙ ap (orElse (minuteOf j (s .arrived)))
-      (minuteOf-same j (stands k p t) arrivals arrivals-same
+      (minuteOf-same j home arrivals arrivals-same
       ∙ ap (λ (z : Bool). cond (eqb k j && z) (some t) none) (ap (ltb 0) arrivals-length ∙ both going (same p (lastStation C k))))
     where
       both : (a b : Bool) → ltb 0 (tick a * tick b) ≡ (a && b)

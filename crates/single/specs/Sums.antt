@@ -10,7 +10,7 @@ use lib.ListN.{length}
 use lib.Dec.{ltb, eqb}
 use borrow.Author.Tests.{lt-ltb, ltb-true}
 use Rattle.rules.specs.Lists.{sum, below}
-use Rattle.rules.specs.Turns.{Mark}
+use Rattle.rules.specs.Turns.{Mark, Arrival}
 use Rattle.rules.specs.Single.{minuteOf}
 use Rattle.theory_lists.specs.Every.{Every}
 use Rattle.theory_lists.specs.Sums.{sum-append, sum-every}
@@ -64,27 +64,27 @@ pub orElse-none : (a : Option ℕ) → orElse a none ≡ a
 orElse-none none = refl
 orElse-none (some t) = refl
 
-pub minuteOf-append : (j : ℕ) (v x : List Mark) → minuteOf j (v ++ x) ≡ orElse (minuteOf j v) (minuteOf j x)
+pub minuteOf-append : (j : ℕ) (v x : List (Arrival Mark)) → minuteOf j (v ++ x) ≡ orElse (minuteOf j v) (minuteOf j x)
 minuteOf-append j [] x = refl
-minuteOf-append j (m ∷ v) x = go (eqb (m .train) j) (minuteOf-append j v x)
+minuteOf-append j (m ∷ v) x = go (eqb (m .who .train) j) (minuteOf-append j v x)
   where
     go : (b : Bool) → minuteOf j (v ++ x) ≡ orElse (minuteOf j v) (minuteOf j x)
         → cond b (some (m .minute)) (minuteOf j (v ++ x)) ≡ orElse (cond b (some (m .minute)) (minuteOf j v)) (minuteOf j x)
     go true h = refl
     go false h = h
 
--- a list of one mark, some times over
-pub minuteOf-same : (j : ℕ) (a : Mark) (x : List Mark) → Every (λ m. m ≡ a) x
-    → minuteOf j x ≡ cond (eqb (a .train) j && ltb 0 (length x)) (some (a .minute)) none
-minuteOf-same j a [] h = go (eqb (a .train) j)
+-- a list of one arrival, some times over
+pub minuteOf-same : (j : ℕ) (a : Arrival Mark) (x : List (Arrival Mark)) → Every (λ m. m ≡ a) x
+    → minuteOf j x ≡ cond (eqb (a .who .train) j && ltb 0 (length x)) (some (a .minute)) none
+minuteOf-same j a [] h = go (eqb (a .who .train) j)
   where
     go : (b : Bool) → none ≡ cond (b && ltb 0 0) (some (a .minute)) none
     go true = refl
     go false = refl
 minuteOf-same j a (m ∷ x) h =
-    ap (λ (q : Mark). cond (eqb (q .train) j) (some (q .minute)) (minuteOf j x)) (h .0) ∙ go (eqb (a .train) j) refl (minuteOf-same j a x (h .1))
+    ap (λ (q : Arrival Mark). cond (eqb (q .who .train) j) (some (q .minute)) (minuteOf j x)) (h .0) ∙ go (eqb (a .who .train) j) refl (minuteOf-same j a x (h .1))
   where
-    go : (b : Bool) → eqb (a .train) j ≡ b → minuteOf j x ≡ cond (eqb (a .train) j && ltb 0 (length x)) (some (a .minute)) none
+    go : (b : Bool) → eqb (a .who .train) j ≡ b → minuteOf j x ≡ cond (eqb (a .who .train) j && ltb 0 (length x)) (some (a .minute)) none
         → cond b (some (a .minute)) (minuteOf j x) ≡ cond (b && ltb 0 (suc (length x))) (some (a .minute)) none
     go true q h = ap (λ (z : Bool). cond z (some (a .minute)) none) (sym (lt-ltb 0 (suc (length x)) (omega arith)))
     go false q h = h ∙ ap (λ (z : Bool). cond (z && ltb 0 (length x)) (some (a .minute)) none) q

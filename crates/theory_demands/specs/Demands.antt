@@ -32,7 +32,7 @@ module _ (cs bk : List ℕ) (C : Case) (accepted : files cs bk ≡ answer C) whe
   demand-3 x choice m = simulation C case-sound x choice m
 
   -- every cover in the list and among the arrivals has one set per train, none of them empty
-  pub covers-filled : (m : ℕ) → Every (λ r. Sets C (r .cover)) (joint C m .list) × Every (λ r. Sets C (r .cover)) (joint C m .arrived)
+  pub covers-filled : (m : ℕ) → Every (λ r. Sets C (r .cover)) (joint C m .list) × Every (λ v. Sets C (v .who .cover)) (joint C m .arrived)
   covers-filled m = joint-sets C case-sound m
 
   -- ---- demand 2

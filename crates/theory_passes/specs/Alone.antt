@@ -12,7 +12,7 @@ use borrow.Author.Tests.{eq-eqb, ltb-true, ltb-false}
 use Rattle.rules.specs.Lists.{one, each, keep, tick, count}
 use Rattle.rules.specs.Refusals.{firstOf}
 use Rattle.rules.specs.Files.{Case}
-use Rattle.rules.specs.Turns.{Place, same, Mark, capacity, entered, arriving, Served, served, State, state}
+use Rattle.rules.specs.Turns.{Place, same, Mark, capacity, entered, arriving, Served, served, State, state, Arrival}
 use Rattle.rules.specs.Turns.Place.{gone}
 use Rattle.rules.specs.Single.{enters, serveTrain, singleRules}
 use Rattle.rules.specs.Demands.{isStanding}
@@ -47,7 +47,7 @@ module _ (C : Case) (t : ℕ) (e : Place) (k : ℕ) where
   passTrain-enters s o =
       λ i. state
       (ap₂ (λ (y z : List Mark). y ++ z) stay (ap (each (entered C t e)) going ∙ append-nil (entered C t e (o .the))) i)
-      (ap (λ (z : List Mark). s .arrived ++ z) (ap (each (arriving C t e)) going ∙ append-nil (arriving C t e (o .the))) i)
+      (ap (λ (z : List (Arrival Mark)). s .arrived ++ z) (ap (each (arriving C t e)) going ∙ append-nil (arriving C t e (o .the))) i)
       (s .met)
     where
       test : Mark → Bool
@@ -77,7 +77,7 @@ module _ (C : Case) (t : ℕ) (e : Place) (k : ℕ) where
   -- ---- in order
 
   -- at most one mark of a train asks
-  pub asker-alone : (ms v : List Mark) → Orderly C ms v → count (asksFor C t e k) ms ≤ 1
+  pub asker-alone : (ms : List Mark) (v : List (Arrival Mark)) → Orderly C ms v → count (asksFor C t e k) ms ≤ 1
   asker-alone ms v o = go (ltb k (length (C .trains))) refl
     where
       less : (m : Mark) (b : Bool) → asksFor C t e k m ≡ b → tick b ≤ tick (isStanding k m)
@@ -97,13 +97,13 @@ module _ (C : Case) (t : ℕ) (e : Place) (k : ℕ) where
           nobody m false r = omega arith
 
   -- the marks on an element are its trains
-  pub enters-admits : (ms v : List Mark) → Orderly C ms v → enters C e ms ≡ admits C e ms
+  pub enters-admits : (ms : List Mark) (v : List (Arrival Mark)) → Orderly C ms v → enters C e ms ≡ admits C e ms
   unfolding enters admits
   enters-admits ms v o = ap (λ (n : ℕ). same e gone || ltb n (capacity C e)) (trainsOn-count C ms v o e)
 
   -- ---- the walk
 
-  walk-skip : (done front rest v : List Mark) (n : ℕ) → Every (λ m. asksFor C t e k m ≡ false) front
+  walk-skip : (done front rest : List Mark) (v : List (Arrival Mark)) (n : ℕ) → Every (λ m. asksFor C t e k m ≡ false) front
       → walk C (singleRules C) t e k done (front ++ rest) [] v n ≡ walk C (singleRules C) t e k (done ++ front) rest [] v n
   unfolding walk singleRules
   walk-skip done [] rest v n h = ap (λ (d : List Mark). walk C (singleRules C) t e k d rest [] v n) (sym (append-nil done))

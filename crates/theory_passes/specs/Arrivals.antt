@@ -8,8 +8,8 @@ use native.Mathlib.Omega.{arith}
 use lib.Dec.{eqb}
 use Rattle.rules.specs.Lists.{one, each, keep, sum}
 use Rattle.rules.specs.Files.{Case}
-use Rattle.rules.specs.Turns.{Place, same, stands, lastStation, Served, served, State}
-use Rattle.rules.specs.Joint.{Cover, Entry, entry, Piece, meets, weight, weightAt}
+use Rattle.rules.specs.Turns.{Place, same, stands, lastStation, Served, served, State, Arrival, arrives, dueAgain}
+use Rattle.rules.specs.Joint.{Cover, Entry, Piece, meets, weight, weightAt, covered}
 use Rattle.theory_sound.specs.Facts.{Sound}
 use Rattle.theory_lists.specs.Each.{each-none, each-self}
 use Rattle.theory_lists.specs.Every.{each-every, Every, every-map, every-each, every-one, every-all}
@@ -32,19 +32,19 @@ module _ (C : Case) (sound : Sound C) (t : ℕ) (e : Place) (k : ℕ) where
   -- what arrives of an entry
   passed-arrived : (qs : List Cover) (r : Entry)
       → passed C t e k qs r .arrived
-      ≡ cond (asksFor C t e k (r .mark)) (each (λ q. map (λ a. entry a (q .cover)) (arrivalMarks C t e k)) (keep (λ q. not (q .held)) (piecesAmong C e qs (r .cover)))) []
+      ≡ cond (asksFor C t e k (r .mark)) (each (λ q. map (covered (q .cover)) (arrivalMarks C t e k)) (keep (λ q. not (q .held)) (piecesAmong C e qs (r .cover)))) []
   unfolding serveWith
   passed-arrived qs r = ap (λ (s : Served Entry). s .arrived) (passed-with C sound t e k qs r) ∙ go (asksFor C t e k (r .mark))
     where
       go : (b : Bool)
           → cond b (serveWith (r .mark) (newMarks C t e k) (arrivalMarks C t e k) (piecesAmong C e qs (r .cover))) (served (r ∷ []) [] []) .arrived
-          ≡ cond b (each (λ q. map (λ a. entry a (q .cover)) (arrivalMarks C t e k)) (keep (λ q. not (q .held)) (piecesAmong C e qs (r .cover)))) []
+          ≡ cond b (each (λ q. map (covered (q .cover)) (arrivalMarks C t e k)) (keep (λ q. not (q .held)) (piecesAmong C e qs (r .cover)))) []
       go true = refl
       go false = refl
 
-  -- the entry is of the train and the minute of the pass
-  abbrev pub Here : Entry → Type 0
-  Here r = (r .mark .train ≡ k) × (r .mark .minute ≡ t)
+  -- the arrival is of the train and the minute of the pass
+  abbrev pub Here : Arrival Entry → Type 0
+  Here v = (v .who .mark .train ≡ k) × (v .minute ≡ t)
 
   -- every arrival of a pass is of its train, in its minute
   pub arrived-here : (l : List Entry) → Every Here (passArrived C t e k l)
@@ -54,15 +54,15 @@ module _ (C : Case) (sound : Sound C) (t : ℕ) (e : Place) (k : ℕ) where
       (λ r u. subst (Every Here) (sym (passed-arrived (meets e k l) r)) (go (asksFor C t e k (r .mark)) (keep (λ q. not (q .held)) (piecesAmong C e (meets e k l) (r .cover)))))
       l (every-all (λ r. Unit) (λ r. tt) l)
     where
-      go : (b : Bool) (ps : List Piece) → Every Here (cond b (each (λ q. map (λ a. entry a (q .cover)) (arrivalMarks C t e k)) ps) [])
+      go : (b : Bool) (ps : List Piece) → Every Here (cond b (each (λ q. map (covered (q .cover)) (arrivalMarks C t e k)) ps) [])
       go true ps =
-          every-each (λ q. Unit) Here (λ q. map (λ a. entry a (q .cover)) (arrivalMarks C t e k))
-          (λ q u. every-map (λ a. (a .train ≡ k) × (a .minute ≡ t)) Here (λ a. entry a (q .cover)) (λ a h. h) (arrivalMarks C t e k)
-          (every-one (λ a. (a .train ≡ k) × (a .minute ≡ t)) (same e (lastStation C k)) (stands k e t) (λ h. (refl, refl)))) ps (every-all (λ q. Unit) (λ q. tt) ps)
+          every-each (λ q. Unit) Here (λ q. map (covered (q .cover)) (arrivalMarks C t e k))
+          (λ q u. every-map (λ a. (a .who .train ≡ k) × (a .minute ≡ t)) Here (covered (q .cover)) (λ a h. h) (arrivalMarks C t e k)
+          (every-one (λ a. (a .who .train ≡ k) × (a .minute ≡ t)) (same e (lastStation C k)) (arrives (stands k e (dueAgain C t k e)) t) (λ h. (refl, refl)))) ps (every-all (λ q. Unit) (λ q. tt) ps)
       go false ps = tt
 
   -- the weight of all arrivals of the pass
-  arrived-sum : (l : List Entry) → sum (λ r. weight C (r .cover)) (passArrived C t e k l) ≡ arrivedWeight C t e k l
+  arrived-sum : (l : List Entry) → sum (λ v. weight C (v .who .cover)) (passArrived C t e k l) ≡ arrivedWeight C t e k l
   unfolding passArrived arrivedWeight enteringWeight arrivalMarks
   arrived-sum l =
       sum-each f (λ r. passed C t e k (meets e k l) r .arrived) l
@@ -71,16 +71,16 @@ module _ (C : Case) (sound : Sound C) (t : ℕ) (e : Place) (k : ℕ) where
       l (every-all (λ r. Unit) (λ r. tt) l)
       ∙ last (same e (lastStation C k))
     where
-      f : Entry → ℕ
-      f r = weight C (r .cover)
+      f : Arrival Entry → ℕ
+      f v = weight C (v .who .cover)
 
       pieceSum : Entry → ℕ
       pieceSum r = sum (λ q. weight C (q .cover)) (keep (λ q. not (q .held)) (piecesAmong C e (meets e k l) (r .cover)))
 
       row : (a b : Bool) (ps : List Piece)
-          → sum f (cond a (each (λ q. map (λ m. entry m (q .cover)) (one b (stands k e t))) ps) []) ≡ cond a (cond b (sum (λ q. weight C (q .cover)) ps) 0) 0
+          → sum f (cond a (each (λ q. map (covered (q .cover)) (one b (arrives (stands k e (dueAgain C t k e)) t))) ps) []) ≡ cond a (cond b (sum (λ q. weight C (q .cover)) ps) 0) 0
       row true true ps =
-          sum-each f (λ q. entry (stands k e t) (q .cover) ∷ []) ps
+          sum-each f (λ q. covered (q .cover) (arrives (stands k e (dueAgain C t k e)) t) ∷ []) ps
           ∙ sum-every (λ q. Unit) (λ q. weight C (q .cover) + 0) (λ q. weight C (q .cover)) (λ q u. omega arith) ps (every-all (λ q. Unit) (λ q. tt) ps)
       row true false ps = ap (sum f) (each-none ps)
       row false b ps = refl
@@ -95,17 +95,17 @@ module _ (C : Case) (sound : Sound C) (t : ℕ) (e : Place) (k : ℕ) where
           none false = refl
 
   -- arrivals of one train and minute weigh there alone
-  here-weight : (v : List Entry) (j u : ℕ) → Every Here v → weightAt C v j u ≡ cond (eqb k j && eqb t u) (sum (λ r. weight C (r .cover)) v) 0
+  here-weight : (v : List (Arrival Entry)) (j u : ℕ) → Every Here v → weightAt C v j u ≡ cond (eqb k j && eqb t u) (sum (λ r. weight C (r .who .cover)) v) 0
   unfolding weightAt
   here-weight v j u h =
-      ap (sum (λ r. weight C (r .cover)))
-      (each-every Here (λ r. one (eqb (r .mark .train) j && eqb (r .mark .minute) u) r) (λ r. one (eqb k j && eqb t u) r)
+      ap (sum (λ r. weight C (r .who .cover)))
+      (each-every Here (λ r. one (eqb (r .who .mark .train) j && eqb (r .minute) u) r) (λ r. one (eqb k j && eqb t u) r)
       (λ r q. ap₂ (λ (i n : ℕ). one (eqb i j && eqb n u) r) (q .0) (q .1)) v h)
       ∙ go (eqb k j && eqb t u)
     where
-      go : (b : Bool) → sum (λ r. weight C (r .cover)) (each (λ r. one b r) v) ≡ cond b (sum (λ r. weight C (r .cover)) v) 0
-      go true = ap (sum (λ r. weight C (r .cover))) (each-self v)
-      go false = ap (sum (λ r. weight C (r .cover))) (each-none v)
+      go : (b : Bool) → sum (λ r. weight C (r .who .cover)) (each (λ r. one b r) v) ≡ cond b (sum (λ r. weight C (r .who .cover)) v) 0
+      go true = ap (sum (λ r. weight C (r .who .cover))) (each-self v)
+      go false = ap (sum (λ r. weight C (r .who .cover))) (each-none v)
 
   -- a pass adds its arrivals at its train and its minute, and nothing else
   pub pass-weight : (s : State Entry) (j u : ℕ) → weightAt C (pass C t e k s .arrived) j u ≡ weightAt C (s .arrived) j u + cond (eqb k j && eqb t u) (arrivedWeight C t e k (s .list)) 0

@@ -6,9 +6,9 @@ use mathlib.Core.List.{List, [], _∷_, map}
 use Prim.Native.Nat.{ℕ, _+_}
 use Rattle.rules.specs.Lists.{one, each, keep}
 use Rattle.rules.specs.Files.{Case}
-use Rattle.rules.specs.Turns.{Place, same, Mark, stands, block, Leg, leg, way, after, headIs, lastStation, asks, dueAgain, leaving, entered, arriving, Served, served}
+use Rattle.rules.specs.Turns.{Place, same, Mark, stands, block, Leg, leg, way, after, headIs, lastStation, asks, dueAgain, leaving, entered, arriving, Served, served, Arrival, arrives}
 use Rattle.rules.specs.Turns.Place.{outside}
-use Rattle.rules.specs.Joint.{Cover, Entry, entry, Piece}
+use Rattle.rules.specs.Joint.{Cover, Entry, entry, Piece, covered}
 use Rattle.theory_sound.specs.Facts.{Sound}
 use Rattle.theory_sound.specs.Ways.{same-true, Apart, off-after, off-head, ahead-after}
 use Rattle.theory_sound.specs.Trains.{way-apart}
@@ -33,17 +33,17 @@ newMarks C t e k =
     stands k e (dueAgain C t k e) ∷ one (not (same (placeBefore C k e) outside)) (block k (placeBefore C k e) (t + C .head .safety))
 
 -- its arrival, if e is its last station
-unfoldable pub arrivalMarks : Case → ℕ → Place → ℕ → List Mark
-arrivalMarks C t e k = one (same e (lastStation C k)) (stands k e t)
+unfoldable pub arrivalMarks : Case → ℕ → Place → ℕ → List (Arrival Mark)
+arrivalMarks C t e k = one (same e (lastStation C k)) (arrives (stands k e (dueAgain C t k e)) t)
 
--- what comes of an asker with the mark m and the pieces ps, where each entering piece makes the marks new, and arrives with the marks home
-unfoldable pub serveWith : Mark → List Mark → List Mark → List Piece → Served Entry
+-- what comes of an asker with the mark m and the pieces ps, where each entering piece makes the marks new, and arrives as home says
+unfoldable pub serveWith : Mark → List Mark → List (Arrival Mark) → List Piece → Served Entry
 serveWith m new home ps =
     let entering = keep (λ q. not (q .held)) ps in
     served
     (map (λ q. entry m (q .cover)) (keep (λ q. q .held) ps))
     (each (λ q. map (λ a. entry a (q .cover)) new) entering)
-    (each (λ q. map (λ a. entry a (q .cover)) home) entering)
+    (each (λ q. map (covered (q .cover)) home) entering)
 
 -- ---- the place of an asker
 
@@ -85,14 +85,14 @@ module _ (C : Case) (sound : Sound C) (t : ℕ) (e : Place) where
 
     pub asksFor-arriving : (m : Mark) → asksFor C t e k m ≡ true → arriving C t e m ≡ arrivalMarks C t e k
     unfolding arriving arrivalMarks
-    asksFor-arriving m h = ap (λ (j : ℕ). one (same e (lastStation C j)) (stands j e t)) (asksFor-train C t e k m h)
+    asksFor-arriving m h = ap (λ (j : ℕ). one (same e (lastStation C j)) (arrives (stands j e (dueAgain C t j e)) t)) (asksFor-train C t e k m h)
 
     -- so an asker is served by its pieces and the marks of the pass
     pub serveAmong-with : (qs : List Cover) (r : Entry) → asksFor C t e k (r .mark) ≡ true
         → serveAmong C t e qs r ≡ serveWith (r .mark) (newMarks C t e k) (arrivalMarks C t e k) (piecesAmong C e qs (r .cover))
     unfolding serveAmong serveWith
     serveAmong-with qs r h =
-        ap₂ (λ (new home : List Mark). serveWith (r .mark) new home (piecesAmong C e qs (r .cover))) (asksFor-entered (r .mark) h) (asksFor-arriving (r .mark) h)
+        ap₂ (λ (new : List Mark) (home : List (Arrival Mark)). serveWith (r .mark) new home (piecesAmong C e qs (r .cover))) (asksFor-entered (r .mark) h) (asksFor-arriving (r .mark) h)
 
     -- and what comes of an entry in the pass follows from its pieces and these marks
     pub passed-with : (qs : List Cover) (r : Entry)

@@ -8,7 +8,7 @@ use native.Mathlib.Omega.{arith}
 use lib.ListN.{length, getD, set}
 use Rattle.rules.specs.Lists.{any, below}
 use Rattle.rules.specs.Files.{Stop, Case}
-use Rattle.rules.specs.Turns.{Place, same, Mark, block, Leg, leg, trainAt, way, after, ahead, headIs, ended, asks, dueAgain, leaving, entered, State, state, Rules}
+use Rattle.rules.specs.Turns.{Place, same, Mark, block, Leg, leg, trainAt, way, after, ahead, headIs, ended, asks, dueAgain, leaving, entered, State, state, Rules, Arrival}
 use Rattle.rules.specs.Turns.Place.{outside}
 use Rattle.rules.specs.Single.{pairAt, firstArrival, waits}
 use Rattle.rules.specs.Joint.{Entry, entry, whole, firstList, checkList, jointRules}
@@ -126,7 +126,7 @@ module _ (C : Case) (sound : Sound C) where
         new : Every P (s .0) × Every P (s .1)
         new = marks (Bounded C) t e (b ++ (a ∷ c)) a own (entered-bounded t h e (R .mark a) ask own)
 
-    pub walk-bounded : (k : ℕ) (l v : List A) (n : ℕ) → AllBounded C (R .mark) l → AllBounded C (R .mark) (walk C R t e k [] l [] v n .list)
+    pub walk-bounded : (k : ℕ) (l : List A) (v : List (Arrival A)) (n : ℕ) → AllBounded C (R .mark) l → AllBounded C (R .mark) (walk C R t e k [] l [] v n .list)
     walk-bounded k l v n q =
         walk-keeps C R t e (λ u w. AllBounded C (R .mark) u) (λ b a c w ask p. serve-bounded b a c ask p) k [] l [] v n
         (subst (AllBounded C (R .mark)) (sym (append-nil l)) q)

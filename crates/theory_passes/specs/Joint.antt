@@ -11,7 +11,7 @@ use lib.Dec.{ltb}
 use borrow.Author.Tests.{ltb-false, lt-ltb}
 use Rattle.rules.specs.Refusals.{firstOf}
 use Rattle.rules.specs.Files.{Case}
-use Rattle.rules.specs.Turns.{Place, ended, State, state}
+use Rattle.rules.specs.Turns.{Place, ended, State, state, Arrival}
 use Rattle.rules.specs.Joint.{Entry, firstList, checkList, jointRules, joint}
 use Rattle.rules.specs.Demands.{passes}
 use Rattle.theory_sound.specs.Facts.{Sound}
@@ -32,7 +32,7 @@ use Rattle.theory_passes.specs.Pass.{walk-list, walk-arrived}
 -- a state that the joint run can be in: its covers are parts of the whole cover, and while nothing is met the list has room
 pub record Lawful (C : Case) (s : State Entry) : Type 0 where
   pub proper : Every (Proper C) (s .list)
-  pub arrivals : Every (Proper C) (s .arrived)
+  pub arrivals : Every (λ v. Proper C (v .who)) (s .arrived)
   pub fits : s .met ≡ 0 → length (s .list) ≤ C .head .room
 
 -- where nothing is met once the list stands, it has room
@@ -43,11 +43,11 @@ module _ (C : Case) (sound : Sound C) where
   module _ (t : ℕ) (e : Place) (k : ℕ) where
     -- ---- one pass
 
-    walk-proper : (l v : List Entry) (n : ℕ) → Every (Proper C) l → Every (Proper C) v
-        → Every (Proper C) (walk C (jointRules C) t e k [] l [] v n .list) × Every (Proper C) (walk C (jointRules C) t e k [] l [] v n .arrived)
+    walk-proper : (l : List Entry) (v : List (Arrival Entry)) (n : ℕ) → Every (Proper C) l → Every (λ a. Proper C (a .who)) v
+        → Every (Proper C) (walk C (jointRules C) t e k [] l [] v n .list) × Every (λ a. Proper C (a .who)) (walk C (jointRules C) t e k [] l [] v n .arrived)
     unfolding jointRules
     walk-proper l v n p q =
-        walk-keeps C (jointRules C) t e (λ l v. Every (Proper C) l × Every (Proper C) v) (λ b a c v ask h. serve-proper C t e b a c v (h .0) (h .1))
+        walk-keeps C (jointRules C) t e (λ l v. Every (Proper C) l × Every (λ a. Proper C (a .who)) v) (λ b a c v ask h. serve-proper C t e b a c v (h .0) (h .1))
         k [] l [] v n (subst (Every (Proper C)) (sym (append-nil l)) p, q)
 
     -- the askers of a train, served one after another, are served as in a pass
@@ -72,7 +72,7 @@ module _ (C : Case) (sound : Sound C) where
     unfolding pass
     pass-lawful s w = record {
       proper = passList-proper s w;
-      arrivals = subst (Every (Proper C)) (walk-arrived C t e k (s .list) (s .arrived) (s .met)) (walk-proper (s .list) (s .arrived) (s .met) (w .proper) (w .arrivals) .1);
+      arrivals = subst (Every (λ v. Proper C (v .who))) (walk-arrived C t e k (s .list) (s .arrived) (s .met)) (walk-proper (s .list) (s .arrived) (s .met) (w .proper) (w .arrivals) .1);
       fits = met-fits C sound (s .met) (passList C t e k (s .list)) (passList-proper s w);
     }
 

@@ -8,7 +8,7 @@ use lib.Dec.{eqb}
 use borrow.Author.Tests.{eq-eqb}
 use Rattle.rules.specs.Lists.{one, each}
 use Rattle.rules.specs.Files.{Case}
-use Rattle.rules.specs.Turns.{Place, same, Served, served, State}
+use Rattle.rules.specs.Turns.{Place, same, Served, served, State, Arrival}
 use Rattle.rules.specs.Joint.{Cover, Entry, meets, pieces, serveEntry, jointRules}
 use Rattle.theory_lists.specs.Each.{each-append, each-none}
 use Rattle.theory_lists.specs.Every.{each-every, Every, every-more}
@@ -45,7 +45,7 @@ module _ (C : Case) (t : ℕ) (e : Place) (k : ℕ) (qs : List Cover) where
   abbrev add : Entry → List Entry
   add r = passed C t e k qs r .added
 
-  abbrev arrive : Entry → List Entry
+  abbrev arrive : Entry → List (Arrival Entry)
   arrive r = passed C t e k qs r .arrived
 
   passed-asker : (r : Entry) → asksFor C t e k (r .mark) ≡ true → passed C t e k qs r ≡ serveAmong C t e qs r
@@ -81,27 +81,27 @@ module _ (C : Case) (t : ℕ) (e : Place) (k : ℕ) (qs : List Cover) where
   abbrev afterWalk : List Entry → List Entry → List Entry → List Entry
   afterWalk done rest new = (done ++ each hold rest) ++ (new ++ each add rest)
 
-  record Walked (done rest new v : List Entry) (s : State Entry) : Type 0 where
+  record Walked (done rest new : List Entry) (v : List (Arrival Entry)) (s : State Entry) : Type 0 where
     list : s .list ≡ afterWalk done rest new
     arrived : s .arrived ≡ v ++ each arrive rest
 
-  walk-passed : (done rest new v : List Entry) (n : ℕ) → meets e k (done ++ (rest ++ new)) ≡ qs → Walked done rest new v (walk C (jointRules C) t e k done rest new v n)
+  walk-passed : (done rest new : List Entry) (v : List (Arrival Entry)) (n : ℕ) → meets e k (done ++ (rest ++ new)) ≡ qs → Walked done rest new v (walk C (jointRules C) t e k done rest new v n)
   unfolding walk jointRules
   walk-passed done [] new v n h = record { list = sym (ap₂ _++_ (append-nil done) (append-nil new)); arrived = sym (append-nil v) }
   walk-passed done (r ∷ rest) new v n h = go (mine C (jointRules C) t e k r) refl (λ d w. walk-passed d rest w)
     where
       -- what the next rows come to, put together with what this row came to
-      joined : (s : State Entry) (rows added arrived : List Entry) → hold r ≡ rows → add r ≡ added → arrive r ≡ arrived
+      joined : (s : State Entry) (rows added : List Entry) (arrived : List (Arrival Entry)) → hold r ≡ rows → add r ≡ added → arrive r ≡ arrived
           → Walked (done ++ rows) rest (new ++ added) (v ++ arrived) s → Walked done (r ∷ rest) new v s
       joined s rows added arrived a b c w = record {
         list = w .list ∙ ap₂ _++_
             (append-assoc done rows (each hold rest) ∙ ap (λ (z : List Entry). done ++ (z ++ each hold rest)) (sym a))
             (append-assoc new added (each add rest) ∙ ap (λ (z : List Entry). new ++ (z ++ each add rest)) (sym b));
-        arrived = w .arrived ∙ append-assoc v arrived (each arrive rest) ∙ ap (λ (z : List Entry). v ++ (z ++ each arrive rest)) (sym c);
+        arrived = w .arrived ∙ append-assoc v arrived (each arrive rest) ∙ ap (λ (z : List (Arrival Entry)). v ++ (z ++ each arrive rest)) (sym c);
       }
 
       go : (b : Bool) → mine C (jointRules C) t e k r ≡ b
-          → ((d w v : List Entry) (n : ℕ) → meets e k (d ++ (rest ++ w)) ≡ qs → Walked d rest w v (walk C (jointRules C) t e k d rest w v n))
+          → ((d w : List Entry) (v : List (Arrival Entry)) (n : ℕ) → meets e k (d ++ (rest ++ w)) ≡ qs → Walked d rest w v (walk C (jointRules C) t e k d rest w v n))
           → Walked done (r ∷ rest) new v (walkOne C (jointRules C) t e (λ d w. walk C (jointRules C) t e k d rest w) done r rest new v n b)
       go true q ih =
           joined (walk C (jointRules C) t e k (done ++ s .rows) rest (new ++ s .added) (v ++ s .arrived) (metWith C (jointRules C) t e n (servedList s done (rest ++ new))))
@@ -126,13 +126,13 @@ module _ (C : Case) (t : ℕ) (e : Place) (k : ℕ) (qs : List Cover) where
       go false q ih =
           joined (walk C (jointRules C) t e k (done ++ (r ∷ [])) rest new v n) (r ∷ []) [] []
           (ap (λ (z : Served Entry). z .rows) (passed-other r q)) (ap (λ (z : Served Entry). z .added) (passed-other r q)) (ap (λ (z : Served Entry). z .arrived) (passed-other r q))
-          (subst₂ (λ (y z : List Entry). Walked (done ++ (r ∷ [])) rest y z (walk C (jointRules C) t e k (done ++ (r ∷ [])) rest new v n))
+          (subst₂ (λ (y : List Entry) (z : List (Arrival Entry)). Walked (done ++ (r ∷ [])) rest y z (walk C (jointRules C) t e k (done ++ (r ∷ [])) rest new v n))
           (sym (append-nil new)) (sym (append-nil v))
           (ih (done ++ (r ∷ [])) new v n (ap (meets e k) (append-assoc done (r ∷ []) (rest ++ new)) ∙ h)))
 
 -- ---- a whole list
 
-module _ (C : Case) (t : ℕ) (e : Place) (k : ℕ) (l v : List Entry) (n : ℕ) where
+module _ (C : Case) (t : ℕ) (e : Place) (k : ℕ) (l : List Entry) (v : List (Arrival Entry)) (n : ℕ) where
   walked : Walked C t e k (meets e k l) [] l [] v (walk C (jointRules C) t e k [] l [] v n)
   walked = walk-passed C t e k (meets e k l) [] l [] v n (ap (meets e k) (append-nil l))
 

@@ -7,10 +7,10 @@ use lib.Dec.{ltb, eqb}
 use Rattle.rules.specs.Lists.{each, keep, count, fold, below}
 use Rattle.rules.specs.Refusals.{firstOf}
 use Rattle.rules.specs.Files.{Case}
-use Rattle.rules.specs.Turns.{Place, same, Mark, capacity, ended, asks, entered, arriving, Served, served, State, state}
+use Rattle.rules.specs.Turns.{Place, same, Mark, capacity, ended, asks, entered, arriving, Served, served, State, state, Arrival}
 use Rattle.rules.specs.Turns.Place.{gone}
 use Rattle.rules.specs.Single.{firstMarks}
-use Rattle.rules.specs.Joint.{Cover, Entry, entry, Piece, piece, carry, meets, firstList, checkList}
+use Rattle.rules.specs.Joint.{Cover, Entry, entry, Piece, piece, carry, meets, firstList, checkList, covered}
 use Rattle.theory_codes.specs.Codes.{placeOf}
 use Rattle.theory_codes.specs.Tables.{order}
 
@@ -32,7 +32,7 @@ serveAmong C t e qs r =
     served
     (map (λ q. entry (r .mark) (q .cover)) (keep (λ q. q .held) ps))
     (each (λ q. map (λ m. entry m (q .cover)) (entered C t e (r .mark))) entering)
-    (each (λ q. map (λ m. entry m (q .cover)) (arriving C t e (r .mark))) entering)
+    (each (λ q. map (covered (q .cover)) (arriving C t e (r .mark))) entering)
 
 -- what comes of an entry in the pass of train k: an asker of that train is served, any other entry stays
 unfoldable pub passed : Case → ℕ → Place → ℕ → List Cover → Entry → Served Entry
@@ -44,7 +44,7 @@ passList C t e k l =
     let qs = meets e k l in
     each (λ r. passed C t e k qs r .rows) l ++ each (λ r. passed C t e k qs r .added) l
 
-unfoldable pub passArrived : Case → ℕ → Place → ℕ → List Entry → List Entry
+unfoldable pub passArrived : Case → ℕ → Place → ℕ → List Entry → List (Arrival Entry)
 passArrived C t e k l = let qs = meets e k l in each (λ r. passed C t e k qs r .arrived) l
 
 -- one pass of train k for e in minute t; the list is held against the room once, at its end

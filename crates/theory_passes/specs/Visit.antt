@@ -11,7 +11,7 @@ use lib.Dec.{ltb, eqb}
 use borrow.Author.Tests.{ltb-true, ltb-false, eqb-true, eq-eqb}
 use Rattle.rules.specs.Lists.{fold, has}
 use Rattle.rules.specs.Files.{Train, Case}
-use Rattle.rules.specs.Turns.{Place, same, Mark, Leg, absent, legs, way, after, ahead, headIs, asks, sooner, Served, State, state, Row, row, items, quiet, Turn, Rules, visiting, left, next, serveNext, turns, visit}
+use Rattle.rules.specs.Turns.{Place, same, Mark, Leg, absent, legs, way, after, ahead, headIs, asks, sooner, Served, State, state, Row, row, items, quiet, Turn, Rules, visiting, left, next, serveNext, turns, visit, Arrival}
 use Rattle.rules.specs.Turns.Place.{outside}
 use Rattle.rules.specs.Turns.Turn.{somebody}
 use Rattle.theory_codes.specs.Tables.{order}
@@ -30,7 +30,7 @@ use Rattle.theory_passes.specs.Walk.{asksFor-asks, asksFor-train, mine, 
 
 module _ {A : Type 0} (C : Case) (R : Rules A) (t : ℕ) (e : Place) where
   -- the state after f turns
-  abbrev afterTurns : ℕ → List (Row A) → List A → ℕ → State A
+  abbrev afterTurns : ℕ → List (Row A) → List (Arrival A) → ℕ → State A
   afterTurns f rs v n = left (turns C R f t e (visiting rs v n))
 
   -- the items of the trains ks that ask have yet to be served
@@ -128,8 +128,8 @@ module _ {A : Type 0} (C : Case) (R : Rules A) (t : ℕ) (e : Place) where
 
     -- serving goes on with the walk of train k, and then with what `finish` does
     module _ (finish : State A → State A)
-        (law : (f : ℕ) (l v : List A) (n : ℕ) → askers (flag ks l) ≤ f → afterTurns f (flag ks l) v n ≡ finish (state l v n)) where
-      serve-walk : (done rest new v : List A) (n f : ℕ) → askers (rowsOf done rest new) ≤ f
+        (law : (f : ℕ) (l : List A) (v : List (Arrival A)) (n : ℕ) → askers (flag ks l) ≤ f → afterTurns f (flag ks l) v n ≡ finish (state l v n)) where
+      serve-walk : (done rest new : List A) (v : List (Arrival A)) (n f : ℕ) → askers (rowsOf done rest new) ≤ f
           → afterTurns f (rowsOf done rest new) v n ≡ finish (walk C R t e k done rest new v n)
       unfolding walk turns
       serve-walk done [] new v n f h =
@@ -138,7 +138,7 @@ module _ {A : Type 0} (C : Case) (R : Rules A) (t : ℕ) (e : Place) where
       serve-walk done (a ∷ rest) new v n f h = go (mine C R t e k a) refl (λ d w. serve-walk d rest w)
         where
           go : (b : Bool) → mine C R t e k a ≡ b
-              → ((d w v : List A) (n f : ℕ) → askers (rowsOf d rest w) ≤ f → afterTurns f (rowsOf d rest w) v n ≡ finish (walk C R t e k d rest w v n))
+              → ((d w : List A) (v : List (Arrival A)) (n f : ℕ) → askers (rowsOf d rest w) ≤ f → afterTurns f (rowsOf d rest w) v n ≡ finish (walk C R t e k d rest w v n))
               → afterTurns f (rowsOf done (a ∷ rest) new) v n ≡ finish (walkOne C R t e (λ d w. walk C R t e k d rest w) done a rest new v n b)
           go true q ih = by f h
             where
@@ -184,7 +184,7 @@ module _ {A : Type 0} (C : Case) (R : Rules A) (t : ℕ) (e : Place) where
                   ∙ ap (λ (z : List (Row A)). z ++ (flag (k ∷ ks) rest ++ flag ks new)) (sym (flag-append ks done (a ∷ [])))
 
   -- the askers of trains in order, served as they come, are served train by train
-  serve-walks : Own R → (ks : List ℕ) → Ordered C ks → (f : ℕ) (l v : List A) (n : ℕ) → askers (flag ks l) ≤ f
+  serve-walks : Own R → (ks : List ℕ) → Ordered C ks → (f : ℕ) (l : List A) (v : List (Arrival A)) (n : ℕ) → askers (flag ks l) ≤ f
       → afterTurns f (flag ks l) v n ≡ fold (walkAll C R t e) ks (state l v n)
   serve-walks own [] o f l v n h =
       ap left (turns-nobody C R f t e (visiting (flag [] l) v n) (flag-nobody l)) ∙ ap (λ (w : List A). state w v n) (items-flag [] l)

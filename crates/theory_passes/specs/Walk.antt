@@ -10,7 +10,7 @@ use lib.Dec.{ltb, eqb}
 use borrow.Author.Tests.{eqb-true, ltb-true, ltb-false, lt-ltb, le-ltb}
 use Rattle.rules.specs.Refusals.{firstOf}
 use Rattle.rules.specs.Files.{Case}
-use Rattle.rules.specs.Turns.{Place, Mark, asks, Served, State, state, Rules}
+use Rattle.rules.specs.Turns.{Place, Mark, asks, Served, State, state, Rules, Arrival}
 use Rattle.rules.specs.Demands.{passes}
 use Rattle.theory_lists.specs.Every.{Every}
 use Rattle.theory_lists.specs.Items.{servedList}
@@ -67,14 +67,14 @@ module _ {A : Type 0} (C : Case) (R : Rules A) (t : ℕ) (e : Place) where
   metWith n l = firstOf (ltb 0 n) n (R .check l)
 
   -- an asker a with the list before it and after it served; `go` looks at what follows, with the rows passed and those added
-  abbrev pub walkOne : (List A → List A → List A → ℕ → State A) → List A → A → List A → List A → List A → ℕ → Bool → State A
+  abbrev pub walkOne : (List A → List A → List (Arrival A) → ℕ → State A) → List A → A → List A → List A → List (Arrival A) → ℕ → Bool → State A
   walkOne go done a rest new v n true =
       let s = R .serve t e (done ++ (a ∷ (rest ++ new))) a in
       go (done ++ s .rows) (new ++ s .added) (v ++ s .arrived) (metWith n (servedList s done (rest ++ new)))
   walkOne go done a rest new v n false = go (done ++ (a ∷ [])) new v n
 
   -- the rows `done` are passed, `rest` are still to look at, `new` were added
-  unfoldable pub walk : ℕ → List A → List A → List A → List A → ℕ → State A
+  unfoldable pub walk : ℕ → List A → List A → List A → List (Arrival A) → ℕ → State A
   walk k done [] new v n = state (done ++ new) v n
   walk k done (a ∷ rest) new v n = walkOne (λ d w. walk k d rest w) done a rest new v n (mine k a)
 
@@ -94,16 +94,16 @@ module _ {A : Type 0} (C : Case) (R : Rules A) (t : ℕ) (e : Place) where
 
   -- ---- what serving keeps
 
-  module _ (P : List A → List A → Type 0)
-      (by-serve : (b : List A) (a : A) (c v : List A) → asks C t e (R .mark a) ≡ true → P (b ++ (a ∷ c)) v
+  module _ (P : List A → List (Arrival A) → Type 0)
+      (by-serve : (b : List A) (a : A) (c : List A) (v : List (Arrival A)) → asks C t e (R .mark a) ≡ true → P (b ++ (a ∷ c)) v
       → P (servedList (R .serve t e (b ++ (a ∷ c)) a) b c) (v ++ R .serve t e (b ++ (a ∷ c)) a .arrived)) where
-    pub walk-keeps : (k : ℕ) (done rest new v : List A) (n : ℕ) → P (done ++ (rest ++ new)) v → P (walk k done rest new v n .list) (walk k done rest new v n .arrived)
+    pub walk-keeps : (k : ℕ) (done rest new : List A) (v : List (Arrival A)) (n : ℕ) → P (done ++ (rest ++ new)) v → P (walk k done rest new v n .list) (walk k done rest new v n .arrived)
     unfolding walk
     walk-keeps k done [] new v n p = p
     walk-keeps k done (a ∷ rest) new v n p = go (mine k a) refl (λ d w. walk-keeps k d rest w)
       where
         go : (b : Bool) → mine k a ≡ b
-            → ((d w v : List A) (n : ℕ) → P (d ++ (rest ++ w)) v → P (walk k d rest w v n .list) (walk k d rest w v n .arrived))
+            → ((d w : List A) (v : List (Arrival A)) (n : ℕ) → P (d ++ (rest ++ w)) v → P (walk k d rest w v n .list) (walk k d rest w v n .arrived))
             → P (walkOne (λ d w. walk k d rest w) done a rest new v n b .list) (walkOne (λ d w. walk k d rest w) done a rest new v n b .arrived)
         go true q ih =
             ih (done ++ s .rows) (new ++ s .added) (v ++ s .arrived) (metWith n (servedList s done (rest ++ new)))
@@ -115,7 +115,7 @@ module _ {A : Type 0} (C : Case) (R : Rules A) (t : ℕ) (e : Place) where
 
   -- ---- nobody of the train asks
 
-  pub walk-nobody : (k : ℕ) (done rest new v : List A) (n : ℕ) → Every (λ a. mine k a ≡ false) rest → walk k done rest new v n ≡ state (done ++ (rest ++ new)) v n
+  pub walk-nobody : (k : ℕ) (done rest new : List A) (v : List (Arrival A)) (n : ℕ) → Every (λ a. mine k a ≡ false) rest → walk k done rest new v n ≡ state (done ++ (rest ++ new)) v n
   unfolding walk
   walk-nobody k done [] new v n h = refl
   walk-nobody k done (a ∷ rest) new v n h =
@@ -138,12 +138,12 @@ module _ {A : Type 0} (C : Case) (R : Rules A) (t : ℕ) (e : Place) where
           length-append done (s .rows),
         )
 
-    pub walk-longer : (k : ℕ) (done rest new v : List A) (n : ℕ) → length (done ++ (rest ++ new)) ≤ length (walk k done rest new v n .list)
+    pub walk-longer : (k : ℕ) (done rest new : List A) (v : List (Arrival A)) (n : ℕ) → length (done ++ (rest ++ new)) ≤ length (walk k done rest new v n .list)
     unfolding walk
     walk-longer k done [] new v n = omega arith
     walk-longer k done (a ∷ rest) new v n = go (mine k a) (λ d w. walk-longer k d rest w)
       where
-        go : (b : Bool) → ((d w v : List A) (n : ℕ) → length (d ++ (rest ++ w)) ≤ length (walk k d rest w v n .list))
+        go : (b : Bool) → ((d w : List A) (v : List (Arrival A)) (n : ℕ) → length (d ++ (rest ++ w)) ≤ length (walk k d rest w v n .list))
             → length (done ++ (a ∷ (rest ++ new))) ≤ length (walkOne (λ d w. walk k d rest w) done a rest new v n b .list)
         go true ih =
             let s = R .serve t e (done ++ (a ∷ (rest ++ new))) a in
@@ -160,11 +160,11 @@ module _ {A : Type 0} (C : Case) (R : Rules A) (t : ℕ) (e : Place) where
     -- where lists with P are refused for the room alone, and serving keeps P
     module _ (room : ℕ) (P : List A → Type 0) (by-room : (l : List A) → P l → R .check l ≡ cond (passes room l) 12 0)
         (by-serve : (b : List A) (a : A) (c : List A) → asks C t e (R .mark a) ≡ true → P (b ++ (a ∷ c)) → P (servedList (R .serve t e (b ++ (a ∷ c)) a) b c)) where
-      kept : (k : ℕ) (done rest new v : List A) (n : ℕ) → P (done ++ (rest ++ new)) → P (walk k done rest new v n .list)
+      kept : (k : ℕ) (done rest new : List A) (v : List (Arrival A)) (n : ℕ) → P (done ++ (rest ++ new)) → P (walk k done rest new v n .list)
       kept k done rest new v n p = walk-keeps (λ l w. P l) (λ b a c w q h. by-serve b a c q h) k done rest new v n p
 
       -- 12 is met during the walk exactly where its last list passes the room
-      pub walk-met : (k : ℕ) (done rest new v : List A) (n : ℕ) → P (done ++ (rest ++ new)) → (n ≡ 0 → length (done ++ (rest ++ new)) ≤ room)
+      pub walk-met : (k : ℕ) (done rest new : List A) (v : List (Arrival A)) (n : ℕ) → P (done ++ (rest ++ new)) → (n ≡ 0 → length (done ++ (rest ++ new)) ≤ room)
           → walk k done rest new v n .met ≡ metWith n (walk k done rest new v n .list)
       unfolding walk
       walk-met k done [] new v n p fits =
@@ -172,7 +172,7 @@ module _ {A : Type 0} (C : Case) (R : Rules A) (t : ℕ) (e : Place) where
       walk-met k done (a ∷ rest) new v n p fits = go (mine k a) refl (λ d w. walk-met k d rest w)
         where
           go : (b : Bool) → mine k a ≡ b
-              → ((d w v : List A) (n : ℕ) → P (d ++ (rest ++ w)) → (n ≡ 0 → length (d ++ (rest ++ w)) ≤ room) → walk k d rest w v n .met ≡ metWith n (walk k d rest w v n .list))
+              → ((d w : List A) (v : List (Arrival A)) (n : ℕ) → P (d ++ (rest ++ w)) → (n ≡ 0 → length (d ++ (rest ++ w)) ≤ room) → walk k d rest w v n .met ≡ metWith n (walk k d rest w v n .list))
               → walkOne (λ d w. walk k d rest w) done a rest new v n b .met ≡ metWith n (walkOne (λ d w. walk k d rest w) done a rest new v n b .list)
           go true q ih =
               ih (done ++ s .rows) (new ++ s .added) (v ++ s .arrived) m here within

@@ -8,7 +8,7 @@ use native.Mathlib.Omega.{arith}
 use lib.ListN.{length}
 use Rattle.rules.specs.Lists.{keep, fold}
 use Rattle.rules.specs.Files.{Case}
-use Rattle.rules.specs.Turns.{Place, Mark, elements, ended, asks, Served, State, state, Row, row, items, quiet, Visit, visiting, Turn, Rules, next, serveNext, turns, visit, minute, minutes, runFrom}
+use Rattle.rules.specs.Turns.{Place, Mark, elements, ended, asks, Arrival, Served, State, state, Row, row, items, quiet, Visit, visiting, Turn, Rules, next, serveNext, turns, visit, minute, minutes, runFrom}
 use Rattle.rules.specs.Turns.Turn.{nobody, somebody}
 use Rattle.theory_lists.specs.Every.{Every, every-append, every-left, every-right, every-map, every-all}
 use Rattle.theory_lists.specs.Items.{servedRows, servedList, items-start, items-asker, items-served}
@@ -40,9 +40,9 @@ module _ {A : Type 0} where
 -- ---- the law
 
 -- P of the list and the arrivals is kept, up to minute `last`, where the elements have E
-module _ {A : Type 0} (C : Case) (R : Rules A) (last : ℕ) (E : Place → Type 0) (places : Every E (elements C)) (P : List A → List A → Type 0)
-    (by-end : (t : ℕ) → t ≤ last → (l v : List A) → P l v → P (keep (λ a. not (ended t (R .mark a))) l) v)
-    (by-serve : (t : ℕ) → t ≤ last → (e : Place) → E e → (b : List A) (a : A) (c v : List A) → asks C t e (R .mark a) ≡ true → P (b ++ (a ∷ c)) v
+module _ {A : Type 0} (C : Case) (R : Rules A) (last : ℕ) (E : Place → Type 0) (places : Every E (elements C)) (P : List A → List (Arrival A) → Type 0)
+    (by-end : (t : ℕ) → t ≤ last → (l : List A) (v : List (Arrival A)) → P l v → P (keep (λ a. not (ended t (R .mark a))) l) v)
+    (by-serve : (t : ℕ) → t ≤ last → (e : Place) → E e → (b : List A) (a : A) (c : List A) (v : List (Arrival A)) → asks C t e (R .mark a) ≡ true → P (b ++ (a ∷ c)) v
     → P (servedList (R .serve t e (b ++ (a ∷ c)) a) b c) (v ++ R .serve t e (b ++ (a ∷ c)) a .arrived)) where
   turns-keep : (k t : ℕ) → t ≤ last → (e : Place) → E e → (v : Visit A) → Every (Asking R (λ m. asks C t e m ≡ true)) (v .rows)
       → P (items (v .rows)) (v .arrived) → P (items (turns C R k t e v .rows)) (turns C R k t e v .arrived)

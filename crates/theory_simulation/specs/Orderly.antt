@@ -11,7 +11,7 @@ use lib.Dec.{ltb, eqb}
 use borrow.Author.Tests.{eq-eqb, ne-eqb}
 use Rattle.rules.specs.Lists.{any, tick, sum, count, below}
 use Rattle.rules.specs.Files.{Case}
-use Rattle.rules.specs.Turns.{Place, same, Mark, ahead, lastStation, capacity}
+use Rattle.rules.specs.Turns.{Place, same, Mark, ahead, lastStation, capacity, Arrival}
 use Rattle.rules.specs.Turns.Place.{outside, gone}
 use Rattle.rules.specs.Single.{trainsOn}
 use Rattle.rules.specs.Demands.{isStanding, isAt}
@@ -38,16 +38,16 @@ abbrev pub reach : Case → ℕ → Place → Mark → ℕ
 reach C j p m = tick (isAt j p m) + tick (isBefore C j p m)
 
 -- the marks ms after which v have arrived are in order
-pub record Orderly (C : Case) (ms v : List Mark) : Type 0 where
+pub record Orderly (C : Case) (ms : List Mark) (v : List (Arrival Mark)) : Type 0 where
   pub known : Every (λ m. m .train < length (C .trains)) ms
   pub stands-once : (j : ℕ) → j < length (C .trains) → count (isStanding j) ms ≡ 1
   pub reach-once : (j : ℕ) (p : Place) → sum (reach C j p) ms ≤ 1
   pub within : (p : Place) → same p outside ≡ false → same p gone ≡ false → count (isOn p) ms ≤ capacity C p
-  pub arrives-once : (j : ℕ) → count (λ a. eqb (a .train) j) v + count (isBefore C j (lastStation C j)) ms ≤ 1
+  pub arrives-once : (j : ℕ) → count (λ a. eqb (a .who .train) j) v + count (isBefore C j (lastStation C j)) ms ≤ 1
 
 -- ---- what follows from order
 
-module _ (C : Case) (ms v : List Mark) (o : Orderly C ms v) where
+module _ (C : Case) (ms : List Mark) (v : List (Arrival Mark)) (o : Orderly C ms v) where
   -- no train is twice on a place
   pub at-once : (j : ℕ) (p : Place) → count (isAt j p) ms ≤ 1
   at-once j p = le-trans (sum-less (λ m. tick (isAt j p m)) (reach C j p) (λ m. omega arith) ms) (o .reach-once j p)
@@ -66,5 +66,5 @@ module _ (C : Case) (ms v : List Mark) (o : Orderly C ms v) where
           sum-below-in (λ j. tick (isAt j e m)) (m .train) (λ j q. ap (λ (z : Bool). tick (z && same (m .place) e)) (ne-eqb (m .train) j (λ r. q (sym r)))) (length (C .trains)) h
           ∙ ap (λ (z : Bool). tick (z && same (m .place) e)) (eq-eqb (m .train) (m .train) refl)
 
-  pub arrived-once : (j : ℕ) → count (λ a. eqb (a .train) j) v ≤ 1
+  pub arrived-once : (j : ℕ) → count (λ a. eqb (a .who .train) j) v ≤ 1
   arrived-once j = omega (arith, o .arrives-once j)

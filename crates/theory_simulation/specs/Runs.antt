@@ -9,11 +9,11 @@ use native.Mathlib.Omega.{arith}
 use lib.ListN.{length, length-map}
 use Rattle.rules.specs.Lists.{one, keep, tick, count, fold}
 use Rattle.rules.specs.Files.{Case}
-use Rattle.rules.specs.Turns.{Place, Mark, elements, ended, asks, sooner, Served, served, State, state, Row, row, items, quiet, Visit, visiting, left, Turn, Rules, next, serveNext, turns, visit, minute, minutes, runFrom}
+use Rattle.rules.specs.Turns.{Place, Mark, elements, ended, asks, sooner, Arrival, Served, served, State, state, Row, row, items, quiet, Visit, visiting, left, Turn, Rules, next, serveNext, turns, visit, minute, minutes, runFrom}
 use Rattle.rules.specs.Turns.Turn.{nobody, somebody}
 use Rattle.rules.specs.Single.{serveTrain, singleRules}
 use Rattle.rules.specs.Joint.{covers, Entry, serveEntry, jointRules}
-use Rattle.rules.specs.Demands.{Choice, view}
+use Rattle.rules.specs.Demands.{Choice, view, arrivalsSeen}
 use Rattle.theory_sound.specs.Facts.{Sound}
 use Rattle.theory_lists.specs.Every.{Every, every-right, every-keep}
 use Rattle.theory_lists.specs.Sums.{sum-append, count-le, count-none}
@@ -22,7 +22,7 @@ use Rattle.theory_lists.specs.Items.{items-start, servedRows, servedList, items
 use Rattle.theory_simulation.specs.Keeping.{asking-start, served-asking}
 use Rattle.theory_simulation.specs.Orderly.{Orderly}
 use Rattle.theory_simulation.specs.Steps.{serve-orderly, end-orderly}
-use Rattle.theory_simulation.specs.View.{viewRows, viewServed, view-append, viewRows-append, viewRows-cons, viewRows-start, items-view, viewRows-asking, viewRows-none, view-end}
+use Rattle.theory_simulation.specs.View.{viewRows, viewServed, arrivalsSeen-append, viewRows-append, viewRows-cons, viewRows-start, items-view, viewRows-asking, viewRows-none, view-end}
 use Rattle.theory_simulation.specs.Serving.{Proper, serve-proper, serve-view, viewRows-served}
 
 -- ---- how many rows ask
@@ -76,14 +76,14 @@ module _ {A : Type 0} where
 -- what the choice sees of a state of the joint run is a state of its single run, which is in order
 pub record Twin (C : Case) (x : List ℕ) (s : State Entry) (u : State Mark) : Type 0 where
   pub list : view x (s .list) ≡ u .list
-  pub arrived : view x (s .arrived) ≡ u .arrived
+  pub arrived : arrivalsSeen x (s .arrived) ≡ u .arrived
   pub proper : Every (Proper C) (s .list)
   pub orderly : Orderly C (u .list) (u .arrived)
 
 -- the same between two turns: rs and ws are the rows, v and w what has arrived
-record Rows (C : Case) (x : List ℕ) (t : ℕ) (e : Place) (rs : List (Row Entry)) (v : List Entry) (ws : List (Row Mark)) (w : List Mark) : Type 0 where
+record Rows (C : Case) (x : List ℕ) (t : ℕ) (e : Place) (rs : List (Row Entry)) (v : List (Arrival Entry)) (ws : List (Row Mark)) (w : List (Arrival Mark)) : Type 0 where
   rows : viewRows x rs ≡ ws
-  arrived : view x v ≡ w
+  arrived : arrivalsSeen x v ≡ w
   asking : Every (Asking (jointRules C) (λ m. asks C t e m ≡ true)) rs
   proper : Every (Proper C) (items rs)
   orderly : Orderly C (items ws) w
@@ -109,7 +109,7 @@ module _ (C : Case) (sound : Sound C) (x : List ℕ) (ch : Choice C x) where
   module _ (t : ℕ) (e : Place) where
     -- ---- one asker
 
-    module _ (rs b : List (Row Entry)) (a : Entry) (c : List (Row Entry)) (v : List Entry) (ws : List (Row Mark)) (w : List Mark)
+    module _ (rs b : List (Row Entry)) (a : Entry) (c : List (Row Entry)) (v : List (Arrival Entry)) (ws : List (Row Mark)) (w : List (Arrival Mark))
         (first : First C (jointRules C) rs b a c) (at : Rows C x t e rs v ws w) where
       abbrev came : Served Entry
       came = serveEntry C t e (items rs) a
@@ -148,8 +148,8 @@ module _ (C : Case) (sound : Sound C) (x : List ℕ) (ch : Choice C x) where
       asking-after : Every (Asking (jointRules C) (λ m. asks C t e m ≡ true)) (servedRows came b c)
       asking-after = served-asking (jointRules C) (λ m. asks C t e m ≡ true) came b a c asking-here
 
-      arrived-after : view x (v ++ came .arrived) ≡ w ++ viewServed x came .arrived
-      arrived-after = view-append x v (came .arrived) ∙ ap (λ (l : List Mark). l ++ view x (came .arrived)) (at .arrived)
+      arrived-after : arrivalsSeen x (v ++ came .arrived) ≡ w ++ viewServed x came .arrived
+      arrived-after = arrivalsSeen-append x v (came .arrived) ∙ ap (λ (l : List (Arrival Mark)). l ++ arrivalsSeen x (came .arrived)) (at .arrived)
 
       -- an asker that does not cover the choice leaves what the choice sees
       apart-after : covers (a .cover) x ≡ false → Rows C x t e (servedRows came b c) (v ++ came .arrived) ws w
@@ -310,7 +310,7 @@ module _ (C : Case) (sound : Sound C) (x : List ℕ) (ch : Choice C x) where
   -- runs from lists of which the choice sees the one as the other
   pub run-twin : (l : List Entry) (ms : List Mark) → view x l ≡ ms → Every (Proper C) l → Orderly C ms []
       → (m : ℕ) → Twin C x (runFrom C (jointRules C) l m) (runFrom C (singleRules C) ms m)
-  unfolding runFrom view
+  unfolding runFrom view arrivalsSeen
   run-twin l ms seen proper orderly m =
       minutes-twin (suc m) (state l [] (jointRules C .check l)) (state ms [] (singleRules C .check ms))
       (record { list = seen; arrived = refl; proper = proper; orderly = orderly })

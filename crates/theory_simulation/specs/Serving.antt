@@ -8,10 +8,10 @@ use lib.Dec.{leb, ltb, eqb}
 use borrow.Author.Tests.{ltb-true, ltb-false, le-leb, lt-leb}
 use Rattle.rules.specs.Lists.{one, each, keep, count}
 use Rattle.rules.specs.Files.{Case}
-use Rattle.rules.specs.Turns.{Place, same, Mark, capacity, asks, entered, arriving, Served, served, Row, quiet}
+use Rattle.rules.specs.Turns.{Place, same, Mark, capacity, asks, entered, Arrival, arriving, Served, served, Row, quiet}
 use Rattle.rules.specs.Turns.Place.{gone}
 use Rattle.rules.specs.Single.{trainsOn, enters, serveTrain}
-use Rattle.rules.specs.Joint.{Cover, covers, whole, Entry, entry, Piece, piece, carry, meets, pieces, serveEntry}
+use Rattle.rules.specs.Joint.{Cover, covers, whole, Entry, entry, covered, Piece, piece, carry, meets, pieces, serveEntry}
 use Rattle.rules.specs.Demands.{Choice, view}
 use Rattle.theory_sound.specs.Facts.{Sound}
 use Rattle.theory_lists.specs.Every.{Every, every-append, every-left, every-right, every-map, every-each, every-keep, every-all, every-more}
@@ -20,7 +20,7 @@ use Rattle.theory_simulation.specs.Cutting.{verdicts, hits}
 use Rattle.theory_simulation.specs.Parts.{Parts, parts-length, carry-parts}
 use Rattle.theory_lists.specs.Items.{servedRows, servedList}
 use Rattle.theory_simulation.specs.Orderly.{Orderly}
-use Rattle.theory_simulation.specs.View.{viewRows, viewServed, meets-covers, view-append, view-cons, viewRows-append, viewRows-quiet, held-view, entering-view, meets-hits, pieces-verdict, others-on}
+use Rattle.theory_simulation.specs.View.{viewRows, viewServed, meets-covers, view-append, view-cons, viewRows-append, viewRows-quiet, held-view, entering-view, arriving-view, meets-hits, pieces-verdict, others-on}
 
 -- ---- proper covers
 
@@ -43,6 +43,14 @@ module _ (P : Cover → Type 0) where
       (λ q f. every-map (λ m. Unit) (λ a. P (a .cover)) (λ m. entry m (q .cover)) (λ m u. f) new (every-all (λ m. Unit) (λ m. tt) new))
       (keep test ps) (every-keep (λ q. P (q .cover)) test ps h)
 
+  -- and of arrivals for each
+  home-covers : (new : List (Arrival Mark)) (test : Piece → Bool) (ps : List Piece) → Every (λ q. P (q .cover)) ps
+      → Every (λ v. P (v .who .cover)) (each (λ q. map (covered (q .cover)) new) (keep test ps))
+  home-covers new test ps h =
+      every-each (λ q. P (q .cover)) (λ v. P (v .who .cover)) (λ q. map (covered (q .cover)) new)
+      (λ q f. every-map (λ v. Unit) (λ v. P (v .who .cover)) (covered (q .cover)) (λ v u. f) new (every-all (λ v. Unit) (λ v. tt) new))
+      (keep test ps) (every-keep (λ q. P (q .cover)) test ps h)
+
 module _ (C : Case) (t : ℕ) (e : Place) where
   pub pieces-proper : (rs : List Entry) (r : Entry) → Every (Proper C) rs → Proper C r → Every (λ q. Parts (whole C) (q .cover)) (pieces C e rs r)
   unfolding pieces
@@ -55,13 +63,13 @@ module _ (C : Case) (t : ℕ) (e : Place) where
 
   -- what comes of an asker has the covers of its pieces, and no other: what holds of each piece's cover holds of each of these
   pub serve-covers : (P : Cover → Type 0) (rs : List Entry) (r : Entry) → Every (λ q. P (q .cover)) (pieces C e rs r)
-      → Every (λ a. P (a .cover)) (serveEntry C t e rs r .rows) × Every (λ a. P (a .cover)) (serveEntry C t e rs r .added) × Every (λ a. P (a .cover)) (serveEntry C t e rs r .arrived)
+      → Every (λ a. P (a .cover)) (serveEntry C t e rs r .rows) × Every (λ a. P (a .cover)) (serveEntry C t e rs r .added) × Every (λ v. P (v .who .cover)) (serveEntry C t e rs r .arrived)
   unfolding serveEntry
-  serve-covers P rs r h = search (kept-covers P, new-covers P)
+  serve-covers P rs r h = search (kept-covers P, new-covers P, home-covers P)
 
   -- serving keeps covers proper, in the list and among the arrivals
-  pub serve-proper : (b : List Entry) (r : Entry) (c v : List Entry) → Every (Proper C) (b ++ (r ∷ c)) → Every (Proper C) v
-      → Every (Proper C) (servedList (serveEntry C t e (b ++ (r ∷ c)) r) b c) × Every (Proper C) (v ++ serveEntry C t e (b ++ (r ∷ c)) r .arrived)
+  pub serve-proper : (b : List Entry) (r : Entry) (c : List Entry) (v : List (Arrival Entry)) → Every (Proper C) (b ++ (r ∷ c)) → Every (λ a. Proper C (a .who)) v
+      → Every (Proper C) (servedList (serveEntry C t e (b ++ (r ∷ c)) r) b c) × Every (λ a. Proper C (a .who)) (v ++ serveEntry C t e (b ++ (r ∷ c)) r .arrived)
   serve-proper b r c v h k =
       let s = serveEntry C t e (b ++ (r ∷ c)) r in
       let here = every-right (Proper C) b (r ∷ c) h in
@@ -69,7 +77,7 @@ module _ (C : Case) (t : ℕ) (e : Place) where
         every-append (Proper C) (b ++ s .rows ++ c) (s .added)
             (every-append (Proper C) (b ++ s .rows) c (every-append (Proper C) b (s .rows) (every-left (Proper C) b (r ∷ c) h) (came .0)) (here .1))
             (came .1),
-        every-append (Proper C) v (s .arrived) k (came .2),
+        every-append (λ a. Proper C (a .who)) v (s .arrived) k (came .2),
       )
 
 -- ---- an asker served, as a choice sees it
@@ -97,9 +105,9 @@ module _ (C : Case) (sound : Sound C) (x : List ℕ) (ch : Choice C x) (t : ℕ)
       λ i. served
       (held-view x (r .mark) (pieces C e rs r) c h v i)
       (entering-view x (entered C t e (r .mark)) (pieces C e rs r) c h v i)
-      (entering-view x (arriving C t e (r .mark)) (pieces C e rs r) c h v i)
+      (arriving-view x (arriving C t e (r .mark)) (pieces C e rs r) c h v i)
 
-  pub serve-view : (b : List Entry) (r : Entry) (c : List Entry) (v : List Mark) → Every (Proper C) (b ++ (r ∷ c)) → asks C t e (r .mark) ≡ true
+  pub serve-view : (b : List Entry) (r : Entry) (c : List Entry) (v : List (Arrival Mark)) → Every (Proper C) (b ++ (r ∷ c)) → asks C t e (r .mark) ≡ true
       → Orderly C (view x (b ++ (r ∷ c))) v
       → viewServed x (serveEntry C t e (b ++ (r ∷ c)) r) ≡ cond (covers (r .cover) x) (serveTrain C t e (view x (b ++ (r ∷ c))) (r .mark)) (served [] [] [])
   unfolding serveTrain enters

@@ -53,18 +53,18 @@ proper-sets C sound r h = record {
         (parts-at (whole C) (r .cover) h k (omega (arith, whole-length C, sound .tabled)))
 
 -- after every minute, each entry of the list and each arrival has a cover that is a part of the whole one
-pub joint-proper : (C : Case) → Sound C → (m : ℕ) → Every (Proper C) (joint C m .list) × Every (Proper C) (joint C m .arrived)
+pub joint-proper : (C : Case) → Sound C → (m : ℕ) → Every (Proper C) (joint C m .list) × Every (λ v. Proper C (v .who)) (joint C m .arrived)
 unfolding joint jointRules
 joint-proper C sound m =
-    run-keeps C (jointRules C) m (λ e. Unit) (every-all (λ e. Unit) (λ e. tt) (elements C)) (λ l v. Every (Proper C) l × Every (Proper C) v)
+    run-keeps C (jointRules C) m (λ e. Unit) (every-all (λ e. Unit) (λ e. tt) (elements C)) (λ l v. Every (Proper C) l × Every (λ a. Proper C (a .who)) v)
     (λ t h l v p. (every-keep (Proper C) (λ r. not (ended t (r .mark))) l (p .0), p .1))
     (λ t h e u b a c v ask p. serve-proper C t e b a c v (p .0) (p .1))
     (firstList C) (first-proper C sound, tt) m (le-refl m)
 
-pub joint-sets : (C : Case) → Sound C → (m : ℕ) → Every (λ r. Sets C (r .cover)) (joint C m .list) × Every (λ r. Sets C (r .cover)) (joint C m .arrived)
+pub joint-sets : (C : Case) → Sound C → (m : ℕ) → Every (λ r. Sets C (r .cover)) (joint C m .list) × Every (λ v. Sets C (v .who .cover)) (joint C m .arrived)
 joint-sets C sound m = (
   every-more (Proper C) (λ r. Sets C (r .cover)) (proper-sets C sound) (joint C m .list) (joint-proper C sound m .0),
-  every-more (Proper C) (λ r. Sets C (r .cover)) (proper-sets C sound) (joint C m .arrived) (joint-proper C sound m .1),
+  every-more (λ v. Proper C (v .who)) (λ v. Sets C (v .who .cover)) (λ v p. proper-sets C sound (v .who) p) (joint C m .arrived) (joint-proper C sound m .1),
 )
 
 -- ---- the two runs
@@ -81,7 +81,7 @@ pub record Kept (C : Case) (s : State Mark) : Type 0 where
   pub stands-once : (k : ℕ) → k < length (C .trains) → count (isStanding k) (s .list) ≡ 1
   pub on-once : (k : ℕ) (p : Place) → count (isAt k p) (s .list) ≤ 1
   pub within : (e : Place) → same e outside ≡ false → same e gone ≡ false → trainsOn C e (s .list) ≤ capacity C e
-  pub arrives-once : (k : ℕ) → count (λ v. eqb (v .train) k) (s .arrived) ≤ 1
+  pub arrives-once : (k : ℕ) → count (λ v. eqb (v .who .train) k) (s .arrived) ≤ 1
 
 orderly-kept : (C : Case) (s : State Mark) → Orderly C (s .list) (s .arrived) → Kept C s
 orderly-kept C s o = record {

@@ -11,7 +11,7 @@ use lib.Dec.{ltb, eqb}
 use borrow.Author.Tests.{eqb-true, ltb-true, ltb-false, lt-ltb, eq-eqb}
 use Rattle.rules.specs.Lists.{one, keep, tick, sum, count}
 use Rattle.rules.specs.Files.{Case}
-use Rattle.rules.specs.Turns.{Place, same, Mark, stands, block, lastStation, capacity, ended, asks, dueAgain, leaving, entered, arriving, served}
+use Rattle.rules.specs.Turns.{Place, same, Mark, stands, block, lastStation, capacity, ended, asks, dueAgain, leaving, entered, Arrival, arrives, arriving, served}
 use Rattle.rules.specs.Turns.Place.{outside, gone}
 use Rattle.rules.specs.Single.{trainsOn, enters, serveTrain}
 use Rattle.rules.specs.Demands.{isAt, isStanding}
@@ -98,7 +98,7 @@ module _ (C : Case) (sound : Sound C) (t : ℕ) (e : Place) (m : Mark) (ask : as
       )
 
   -- an asker for e is not on e, nor does it block e
-  pub asker-none : (b c v : List Mark) → Orderly C (b ++ (m ∷ c)) v → count (isAt (m .train) e) (b ++ (m ∷ c)) ≡ 0
+  pub asker-none : (b c : List Mark) (v : List (Arrival Mark)) → Orderly C (b ++ (m ∷ c)) v → count (isAt (m .train) e) (b ++ (m ∷ c)) ≡ 0
   asker-none b c v o =
       omega (
         arith,
@@ -120,17 +120,17 @@ module _ (C : Case) (sound : Sound C) (t : ℕ) (e : Place) (m : Mark) (ask : as
   entered-known P h = search (every-one P)
 
   -- the asker's arrival is at the last station
-  arriving-le : (j : ℕ) → count (λ a. eqb (a .train) j) (arriving C t e m) ≤ tick (eqb (m .train) j && same e (lastStation C j))
+  arriving-le : (j : ℕ) → count (λ a. eqb (a .who .train) j) (arriving C t e m) ≤ tick (eqb (m .train) j && same e (lastStation C j))
   unfolding arriving
   arriving-le j = go (same e (lastStation C (m .train))) (eqb (m .train) j) refl refl
     where
       go : (b a : Bool) → same e (lastStation C (m .train)) ≡ b → eqb (m .train) j ≡ a
-          → count (λ a. eqb (a .train) j) (one b (stands (m .train) e t)) ≤ tick (a && same e (lastStation C j))
+          → count (λ a. eqb (a .who .train) j) (one b (arrives (stands (m .train) e (dueAgain C t (m .train) e)) t)) ≤ tick (a && same e (lastStation C j))
       go true true q r = omega (arith, tick-le (eqb (m .train) j), ap tick (sym (ap (λ (k : ℕ). same e (lastStation C k)) (eqb-true (m .train) j r)) ∙ q))
       go true false q r = omega (arith, ap tick r)
       go false a q r = omega arith
 
-  module _ (b c v : List Mark) (o : Orderly C (b ++ (m ∷ c)) v) where
+  module _ (b c : List Mark) (v : List (Arrival Mark)) (o : Orderly C (b ++ (m ∷ c)) v) where
     abbrev after : List Mark
     after = b ++ [] ++ c ++ entered C t e m
 
@@ -179,7 +179,7 @@ module _ (C : Case) (sound : Sound C) (t : ℕ) (e : Place) (m : Mark) (ask : as
       arrives-once = λ j. omega (
         arith,
         o .arrives-once j,
-        sum-append (λ a. tick (eqb (a .train) j)) v (arriving C t e m),
+        sum-append (λ a. tick (eqb (a .who .train) j)) v (arriving C t e m),
         arriving-le j,
         entered-before j (lastStation C j),
         sum-around (λ a. tick (isBefore C j (lastStation C j) a)) b m c,
@@ -214,7 +214,7 @@ end-standing t j ms =
     go m true false q = omega arith
     go m false l q = omega arith
 
-pub end-orderly : (C : Case) (t : ℕ) (ms v : List Mark) → Orderly C ms v → Orderly C (keep (λ m. not (ended t m)) ms) v
+pub end-orderly : (C : Case) (t : ℕ) (ms : List Mark) (v : List (Arrival Mark)) → Orderly C ms v → Orderly C (keep (λ m. not (ended t m)) ms) v
 end-orderly C t ms v o = record {
   known = every-keep (λ m. m .train < length (C .trains)) (λ m. not (ended t m)) ms (o .known);
   stands-once = λ j l. end-standing t j ms ∙ o .stands-once j l;

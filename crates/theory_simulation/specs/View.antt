@@ -8,11 +8,11 @@ use native.Mathlib.Omega.{arith}
 use lib.Dec.{leb, eqb}
 use Rattle.rules.specs.Lists.{one, each, keep, tick, sum, count}
 use Rattle.rules.specs.Files.{Case}
-use Rattle.rules.specs.Turns.{Place, same, Mark, capacity, asks, ended, Served, served, Row, row, items, quiet}
+use Rattle.rules.specs.Turns.{Place, same, Mark, capacity, asks, ended, Arrival, arrives, Served, served, Row, row, items, quiet}
 use Rattle.rules.specs.Turns.Place.{gone}
 use Rattle.rules.specs.Single.{trainsOn, singleRules}
-use Rattle.rules.specs.Joint.{Cover, covers, Entry, entry, Piece, piece, carry, meets, pieces, jointRules}
-use Rattle.rules.specs.Demands.{isAt, view}
+use Rattle.rules.specs.Joint.{Cover, covers, Entry, entry, covered, Piece, piece, carry, meets, pieces, jointRules}
+use Rattle.rules.specs.Demands.{view, arrivalsSeen, isAt}
 use Rattle.theory_sound.specs.Facts.{Sound}
 use Rattle.theory_lists.specs.Each.{each-append, each-map, each-each, each-same, each-none, each-self, each-one}
 use Rattle.theory_lists.specs.Every.{Every, every-each, every-one, every-all}
@@ -31,7 +31,7 @@ viewRows x rs = each (λ r. one (covers (r .item .cover) x) (row (r .item .mark)
 
 -- the same of what comes of an asker
 abbrev pub viewServed : List ℕ → Served Entry → Served Mark
-viewServed x s = served (view x (s .rows)) (view x (s .added)) (view x (s .arrived))
+viewServed x s = served (view x (s .rows)) (view x (s .added)) (arrivalsSeen x (s .arrived))
 
 -- ---- the covers that are met
 
@@ -53,6 +53,10 @@ module _ (x : List ℕ) where
   pub view-append : (s t : List Entry) → view x (s ++ t) ≡ view x s ++ view x t
   unfolding view
   view-append s t = each-append (λ r. one (covers (r .cover) x) (r .mark)) s t
+
+  pub arrivalsSeen-append : (s t : List (Arrival Entry)) → arrivalsSeen x (s ++ t) ≡ arrivalsSeen x s ++ arrivalsSeen x t
+  unfolding arrivalsSeen
+  arrivalsSeen-append s t = each-append (λ v. one (covers (v .who .cover) x) (arrives (v .who .mark) (v .minute))) s t
 
   pub viewRows-append : (s t : List (Row Entry)) → viewRows x (s ++ t) ≡ viewRows x s ++ viewRows x t
   unfolding viewRows
@@ -151,32 +155,41 @@ module _ (x : List ℕ) where
       ∙ through (λ q. each (λ a. one (covers (a .cover) x) m) (one (q .held) q)) (λ b. one b m)
       (λ q. each-one (λ a. one (covers (a .cover) x) m) (q .held) q ∙ one-swap m (q .held) (covers (q .cover) x)) ps c h v
 
-  -- marks under one cover
-  under-view : (p : Cover) (new : List Mark) → view x (map (λ m. entry m p) new) ≡ cond (covers p x) new []
-  unfolding view
-  under-view p new = each-map (λ r. one (covers (r .cover) x) (r .mark)) (λ m. entry m p) new ∙ go (covers p x)
-    where
-      go : (c : Bool) → each (λ m. one c m) new ≡ cond c new []
-      go true = each-self new
-      go false = each-none new
+  -- what is made of each of `new` under a piece's cover, where it is seen by the choices that the cover covers
+  module _ {X Y : Type 0} (under : Cover → X → Y) (seen : Y → List X) (here : (p : Cover) (v : X) → seen (under p v) ≡ one (covers p x) v) where
+    under-seen : (p : Cover) (new : List X) → each seen (map (under p) new) ≡ cond (covers p x) new []
+    under-seen p new = each-map seen (under p) new ∙ each-same (λ v. seen (under p v)) (λ v. one (covers p x) v) (here p) new ∙ go (covers p x)
+      where
+        go : (c : Bool) → each (λ v. one c v) new ≡ cond c new []
+        go true = each-self new
+        go false = each-none new
 
-  -- the marks that entering pieces make
+    entering-seen : (new : List X) (ps : List Piece) (c h : Bool) → verdicts x ps ≡ one c h
+        → each seen (each (λ q. map (under (q .cover)) new) (keep (λ q. not (q .held)) ps)) ≡ cond c (cond h [] new) []
+    entering-seen new ps c h v =
+        each-each seen (λ q. map (under (q .cover)) new) (keep (λ q. not (q .held)) ps)
+        ∙ each-each (λ q. each seen (map (under (q .cover)) new)) (λ q. one (not (q .held)) q) ps
+        ∙ through (λ q. each (λ a. each seen (map (under (a .cover)) new)) (one (not (q .held)) q)) (λ b. cond b [] new)
+        (λ q. each-one (λ a. each seen (map (under (a .cover)) new)) (not (q .held)) q
+        ∙ ap (λ (z : List X). cond (not (q .held)) z []) (under-seen (q .cover) new)
+        ∙ go (q .held) (covers (q .cover) x)) ps c h v
+      where
+        go : (a b : Bool) → cond (not a) (cond b new []) [] ≡ cond b (cond a [] new) []
+        go true true = refl
+        go true false = refl
+        go false true = refl
+        go false false = refl
+
+  -- the marks that entering pieces make, and their arrivals
   pub entering-view : (new : List Mark) (ps : List Piece) (c h : Bool) → verdicts x ps ≡ one c h
       → view x (each (λ q. map (λ m. entry m (q .cover)) new) (keep (λ q. not (q .held)) ps)) ≡ cond c (cond h [] new) []
   unfolding view
-  entering-view new ps c h v =
-      each-each (λ r. one (covers (r .cover) x) (r .mark)) (λ q. map (λ m. entry m (q .cover)) new) (keep (λ q. not (q .held)) ps)
-      ∙ each-each (λ q. view x (map (λ m. entry m (q .cover)) new)) (λ q. one (not (q .held)) q) ps
-      ∙ through (λ q. each (λ a. view x (map (λ m. entry m (a .cover)) new)) (one (not (q .held)) q)) (λ b. cond b [] new)
-      (λ q. each-one (λ a. view x (map (λ m. entry m (a .cover)) new)) (not (q .held)) q
-      ∙ ap (λ (z : List Mark). cond (not (q .held)) z []) (under-view (q .cover) new)
-      ∙ go (q .held) (covers (q .cover) x)) ps c h v
-    where
-      go : (a b : Bool) → cond (not a) (cond b new []) [] ≡ cond b (cond a [] new) []
-      go true true = refl
-      go true false = refl
-      go false true = refl
-      go false false = refl
+  entering-view = entering-seen (λ p m. entry m p) (λ r. one (covers (r .cover) x) (r .mark)) (λ p m. refl)
+
+  pub arriving-view : (new : List (Arrival Mark)) (ps : List Piece) (c h : Bool) → verdicts x ps ≡ one c h
+      → arrivalsSeen x (each (λ q. map (covered (q .cover)) new) (keep (λ q. not (q .held)) ps)) ≡ cond c (cond h [] new) []
+  unfolding arrivalsSeen
+  arriving-view = entering-seen covered (λ v. one (covers (v .who .cover) x) (arrives (v .who .mark) (v .minute))) (λ p v. refl)
 
   -- ---- the verdict
 
@@ -212,7 +225,7 @@ module _ (x : List ℕ) where
           ∙ ap (λ (z : ℕ). one (covers (r .cover) x) (leb (capacity C e) z)) (omega arith)
 
   -- the order that the view has makes the verdict the single run's
-  pub others-on : (C : Case) → Sound C → (t : ℕ) (e : Place) (m : Mark) → asks C t e m ≡ true → (b c v : List Mark) → Orderly C (b ++ (m ∷ c)) v
+  pub others-on : (C : Case) → Sound C → (t : ℕ) (e : Place) (m : Mark) → asks C t e m ≡ true → (b c : List Mark) (v : List (Arrival Mark)) → Orderly C (b ++ (m ∷ c)) v
       → count (λ a. not (eqb (a .train) (m .train)) && same (a .place) e) (b ++ (m ∷ c)) ≡ trainsOn C e (b ++ (m ∷ c))
   others-on C sound t e m ask b c v o =
       omega (arith, trainsOn-count C (b ++ (m ∷ c)) v o e, asker-none C sound t e m ask b c v o, split)

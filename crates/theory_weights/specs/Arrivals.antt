@@ -13,11 +13,11 @@ use lib.Dec.{eqb}
 use borrow.Author.Tests.{eqb-true, eq-eqb, ne-eqb}
 use Rattle.rules.specs.Lists.{keep, tick, sum, count, below}
 use Rattle.rules.specs.Files.{Case}
-use Rattle.rules.specs.Turns.{Mark}
+use Rattle.rules.specs.Turns.{Mark, Arrival}
 use Rattle.rules.specs.Single.{single, minuteOf, arrival}
 use Rattle.rules.specs.Joint.{covers, choices, whole, weightOf, total, joint, weightAt}
 use Rattle.rules.specs.Listing.{window, notArrived}
-use Rattle.rules.specs.Demands.{view, isIn, isNever, arrivesIn, arrivesNever}
+use Rattle.rules.specs.Demands.{arrivalsSeen, isIn, isNever, arrivesIn, arrivesNever}
 use Rattle.theory_sound.specs.Facts.{Sound}
 use Rattle.theory_lists.specs.Tests.{eqb-turn}
 use Rattle.theory_lists.specs.Every.{Every, every-more}
@@ -50,9 +50,9 @@ arrivesNever-arrival C k x = (is-never (arrival C x k), λ h. ap isNever h)
 -- what each choice sees of the arrivals that the joint run has logged after minute m: those of its single run, each train at most once;
 -- and their covers are parts of the whole
 pub record Seen (C : Case) (m : ℕ) : Type 0 where
-  pub parts : Every (Proper C) (joint C m .arrived)
-  pub seen : (x : List ℕ) → covers (whole C) x ≡ true → view x (joint C m .arrived) ≡ single C x m .arrived
-  pub once : (x : List ℕ) → covers (whole C) x ≡ true → (k : ℕ) → count (λ v. eqb (v .train) k) (single C x m .arrived) ≤ 1
+  pub parts : Every (λ v. Proper C (v .who)) (joint C m .arrived)
+  pub seen : (x : List ℕ) → covers (whole C) x ≡ true → arrivalsSeen x (joint C m .arrived) ≡ single C x m .arrived
+  pub once : (x : List ℕ) → covers (whole C) x ≡ true → (k : ℕ) → count (λ v. eqb (v .who .train) k) (single C x m .arrived) ≤ 1
 
 pub joint-seen : (C : Case) → Sound C → (m : ℕ) → Seen C m
 joint-seen C sound m = record {
@@ -73,15 +73,15 @@ count-both f g l = sum-less (λ a. tick (f a && g a)) (λ a. tick (f a)) (λ a. 
     go false b = omega arith
 
 -- the arrivals of train k in minute t: one if that is its minute, and otherwise none
-count-minute : (k t : ℕ) (vs : List Mark) → count (λ v. eqb (v .train) k) vs ≤ 1
-    → count (λ v. eqb (v .train) k && eqb (v .minute) t) vs ≡ tick (isIn t (minuteOf k vs))
+count-minute : (k t : ℕ) (vs : List (Arrival Mark)) → count (λ v. eqb (v .who .train) k) vs ≤ 1
+    → count (λ v. eqb (v .who .train) k && eqb (v .minute) t) vs ≡ tick (isIn t (minuteOf k vs))
 count-minute k t [] h = refl
-count-minute k t (v ∷ vs) h = go (eqb (v .train) k) h (count-minute k t vs)
+count-minute k t (v ∷ vs) h = go (eqb (v .who .train) k) h (count-minute k t vs)
   where
-    go : (b : Bool) → tick b + count (λ v. eqb (v .train) k) vs ≤ 1
-        → (count (λ v. eqb (v .train) k) vs ≤ 1 → count (λ v. eqb (v .train) k && eqb (v .minute) t) vs ≡ tick (isIn t (minuteOf k vs)))
-        → tick (b && eqb (v .minute) t) + count (λ v. eqb (v .train) k && eqb (v .minute) t) vs ≡ tick (isIn t (cond b (some (v .minute)) (minuteOf k vs)))
-    go true l ih = omega (arith, count-both (λ v. eqb (v .train) k) (λ v. eqb (v .minute) t) vs)
+    go : (b : Bool) → tick b + count (λ v. eqb (v .who .train) k) vs ≤ 1
+        → (count (λ v. eqb (v .who .train) k) vs ≤ 1 → count (λ v. eqb (v .who .train) k && eqb (v .minute) t) vs ≡ tick (isIn t (minuteOf k vs)))
+        → tick (b && eqb (v .minute) t) + count (λ v. eqb (v .who .train) k && eqb (v .minute) t) vs ≡ tick (isIn t (cond b (some (v .minute)) (minuteOf k vs)))
+    go true l ih = omega (arith, count-both (λ v. eqb (v .who .train) k) (λ v. eqb (v .minute) t) vs)
     go false l ih = omega (arith, ih (omega arith))
 
 -- the minute, if there is one, is at most m
@@ -89,9 +89,9 @@ abbrev pub By : ℕ → Option ℕ → Type 0
 By m none = Unit
 By m (some u) = u ≤ m
 
-minute-by : (m k : ℕ) (vs : List Mark) → Every (λ v. v .minute ≤ m) vs → By m (minuteOf k vs)
+minute-by : (m k : ℕ) (vs : List (Arrival Mark)) → Every (λ v. v .minute ≤ m) vs → By m (minuteOf k vs)
 minute-by m k [] h = tt
-minute-by m k (v ∷ vs) h = go (eqb (v .train) k) (minute-by m k vs (h .1))
+minute-by m k (v ∷ vs) h = go (eqb (v .who .train) k) (minute-by m k vs (h .1))
   where
     go : (b : Bool) → By m (minuteOf k vs) → By m (cond b (some (v .minute)) (minuteOf k vs))
     go true ih = h .0
@@ -112,14 +112,14 @@ window-minute f n (some u) h =
     ∙ one-mul (f u)
 
 -- arrivals logged later do not change whether a train arrives in an earlier minute
-minute-grown : (k t : ℕ) (vs new : List Mark) → Every (λ v. t < v .minute) new → isIn t (minuteOf k (vs ++ new)) ≡ isIn t (minuteOf k vs)
+minute-grown : (k t : ℕ) (vs new : List (Arrival Mark)) → Every (λ v. t < v .minute) new → isIn t (minuteOf k (vs ++ new)) ≡ isIn t (minuteOf k vs)
 minute-grown k t [] [] h = refl
-minute-grown k t [] (v ∷ new) h = go (eqb (v .train) k) (minute-grown k t [] new (h .1))
+minute-grown k t [] (v ∷ new) h = go (eqb (v .who .train) k) (minute-grown k t [] new (h .1))
   where
     go : (b : Bool) → isIn t (minuteOf k new) ≡ false → isIn t (cond b (some (v .minute)) (minuteOf k new)) ≡ false
     go true ih = ne-eqb (v .minute) t (λ e. omega (arith, h .0))
     go false ih = ih
-minute-grown k t (v ∷ vs) new h = go (eqb (v .train) k) (minute-grown k t vs new h)
+minute-grown k t (v ∷ vs) new h = go (eqb (v .who .train) k) (minute-grown k t vs new h)
   where
     go : (b : Bool) → isIn t (minuteOf k (vs ++ new)) ≡ isIn t (minuteOf k vs)
         → isIn t (cond b (some (v .minute)) (minuteOf k (vs ++ new))) ≡ isIn t (cond b (some (v .minute)) (minuteOf k vs))
@@ -135,7 +135,7 @@ arrived-at C m S k t =
     weightAt-choices C (joint C m .arrived) k t (S .parts)
     ∙ sum-every (λ x. covers (whole C) x ≡ true) _ (λ x. tick (isIn t (minuteOf k (single C x m .arrived))) * weightOf C x)
     (λ x c. ap (λ (n : ℕ). weightOf C x * n)
-    (ap (λ (l : List Mark). count (λ v. eqb (v .train) k && eqb (v .minute) t) l) (S .seen x c) ∙ count-minute k t (single C x m .arrived) (S .once x c k))
+    (ap (λ (l : List (Arrival Mark)). count (λ v. eqb (v .who .train) k && eqb (v .minute) t) l) (S .seen x c) ∙ count-minute k t (single C x m .arrived) (S .once x c k))
     ∙ mul-comm (weightOf C x) (tick (isIn t (minuteOf k (single C x m .arrived)))))
     (choices C) (choices-whole C)
 
@@ -155,7 +155,7 @@ arrived-weight C m S h k t l =
     later : (x : List ℕ) → isIn t (minuteOf k (single C x T .arrived)) ≡ isIn t (minuteOf k (single C x m .arrived))
     later x =
         let g = single-later C x m T h in
-        ap (λ (vs : List Mark). isIn t (minuteOf k vs)) (g .grown) ∙ minute-grown k t (single C x m .arrived) (g .new) (every-more (λ v. m < v .minute) (λ v. t < v .minute) (λ v q. omega arith) (g .new) (g .kind))
+        ap (λ (vs : List (Arrival Mark)). isIn t (minuteOf k vs)) (g .grown) ∙ minute-grown k t (single C x m .arrived) (g .new) (every-more (λ v. m < v .minute) (λ v. t < v .minute) (λ v q. omega arith) (g .new) (g .kind))
 
 -- a run stopped after minute m has added nothing in later minutes
 pub arrived-later : (C : Case) (m : ℕ) → Seen C m → (k t : ℕ) → m < t → weightAt C (joint C m .arrived) k t ≡ 0

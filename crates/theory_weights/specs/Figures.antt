@@ -14,6 +14,7 @@ use Rattle.rules.specs.Single.{arrival}
 use Rattle.rules.specs.Joint.{Entry, choices, weightOf, total, joint, weightAt}
 use Rattle.rules.specs.Listing.{window, notArrived}
 use Rattle.rules.specs.Figures.{plan, weightIn, onTime, late, latenessSum, latenessWeight}
+use Rattle.rules.specs.Turns.{Arrival}
 use Rattle.theory_sound.specs.Facts.{Sound}
 use Rattle.theory_lists.specs.Sums.{sum-same, sum-plus, sum-keep}
 use Rattle.theory_weights.specs.Arrivals.{Seen, forMinute, window-choices, arrived-total}
@@ -29,7 +30,7 @@ arrivesWhen C k test x = passesIn test (arrival C x k)
 
 module _ (C : Case) (S : Seen C (C .head .lastMinute)) (k : ℕ) where
   -- the arrivals of the joint run
-  abbrev pub arrivals : List Entry
+  abbrev pub arrivals : List (Arrival Entry)
   arrivals = joint C (C .head .lastMinute) .arrived
 
   -- the weight in the minutes that pass a test is that of the choices whose single run brings train k in in such a minute

@@ -22,7 +22,7 @@ use Rattle.theory_trace.specs.Trace.{Splits, next-splits, items-after}
 pub record ServedAll {A : Type 0} (p : A → Type 0) (s : Served A) : Type 0 where
   pub rows : Every p (s .rows)
   pub added : Every p (s .added)
-  pub arrived : Every p (s .arrived)
+  pub arrived : Every (λ v. p (v .who)) (s .arrived)
 
 -- serving an asker keeps the property
 abbrev pub Keeps : {A : Type 0} → Rules A → (A → Type 0) → Type 0
@@ -32,7 +32,7 @@ Keeps {A} R p = (t : ℕ) (e : Place) (l : List A) (a : A) → Every p l → p a
 pub record KeptAll {A : Type 0} (p : A → Type 0) (ls : List (List A)) (s : State A) : Type 0 where
   pub lists : Every (Every p) ls
   pub list : Every p (s .list)
-  pub arrived : Every p (s .arrived)
+  pub arrived : Every (λ v. p (v .who)) (s .arrived)
 
 module _ {A : Type 0} (C : Case) (R : Rules A) (p : A → Type 0) (keeps : Keeps R p) where
   after-kept : (t : ℕ) (e : Place) (rs b : List (Row A)) (a : A) (c : List (Row A)) → Splits rs (somebody b a c) → Every p (items rs)
@@ -52,34 +52,34 @@ module _ {A : Type 0} (C : Case) (R : Rules A) (p : A → Type 0) (keeps : Keeps
   abbrev Visited : List (List A) → Visit A → Type 0
   Visited ls v = KeptAll p ls (left v)
 
-  turns-kept : (k t : ℕ) (e : Place) (v : Visit A) → Every p (items (v .rows)) → Every p (v .arrived) → Visited (turnLists C R k t e v) (turns C R k t e v)
+  turns-kept : (k t : ℕ) (e : Place) (v : Visit A) → Every p (items (v .rows)) → Every (λ a. p (a .who)) (v .arrived) → Visited (turnLists C R k t e v) (turns C R k t e v)
   unfolding turns turnLists
   turns-kept zero t e v h g = record { lists = tt; list = h; arrived = g }
   turns-kept (suc k) t e v h g = go (next C R (v .rows)) (next-splits C R (v .rows)) (turns-kept k t e)
     where
       go : (u : Turn A) → Splits (v .rows) u
-          → ((w : Visit A) → Every p (items (w .rows)) → Every p (w .arrived) → Visited (turnLists C R k t e w) (turns C R k t e w))
+          → ((w : Visit A) → Every p (items (w .rows)) → Every (λ a. p (a .who)) (w .arrived) → Visited (turnLists C R k t e w) (turns C R k t e w))
           → Visited (turnList C R t e (v .rows) u ++ turnLists C R k t e (serveNext C R t e v u)) (turns C R k t e (serveNext C R t e v u))
       go nobody split ih = ih v h g
       go (somebody b a c) split ih =
           let l : Every p (items b ++ (a ∷ items c)) = subst (Every p) split h in
           let s = keeps t e (items (v .rows)) a h (every-right p (items b) (a ∷ items c) l .0) in
           let q = after-kept t e (v .rows) b a c split h in
-          let r = ih (serveNext C R t e v (somebody b a c)) q (every-append p (v .arrived) _ g (s .arrived)) in
+          let r = ih (serveNext C R t e v (somebody b a c)) q (every-append (λ a. p (a .who)) (v .arrived) _ g (s .arrived)) in
           record { lists = (q, r .lists); list = r .list; arrived = r .arrived }
 
-  visit-kept : (t : ℕ) (e : Place) (s : State A) → Every p (s .list) → Every p (s .arrived) → KeptAll p (visitLists C R t e s) (visit C R t e s)
+  visit-kept : (t : ℕ) (e : Place) (s : State A) → Every p (s .list) → Every (λ a. p (a .who)) (s .arrived) → KeptAll p (visitLists C R t e s) (visit C R t e s)
   unfolding visit visitLists
   visit-kept t e s h g = turns-kept _ t e _ (subst (Every p) (sym (items-start (λ a. asks C t e (R .mark a)) (s .list))) h) g
 
-  visits-kept : (t : ℕ) (es : List Place) (s : State A) → Every p (s .list) → Every p (s .arrived) → KeptAll p (visitsLists C R t es s) (fold (visit C R t) es s)
+  visits-kept : (t : ℕ) (es : List Place) (s : State A) → Every p (s .list) → Every (λ a. p (a .who)) (s .arrived) → KeptAll p (visitsLists C R t es s) (fold (visit C R t) es s)
   visits-kept t [] s h g = record { lists = tt; list = h; arrived = g }
   visits-kept t (e ∷ es) s h g =
       let a = visit-kept t e s h g in
       let b = visits-kept t es (visit C R t e s) (a .list) (a .arrived) in
       record { lists = every-append (Every p) (visitLists C R t e s) (visitsLists C R t es (visit C R t e s)) (a .lists) (b .lists); list = b .list; arrived = b .arrived }
 
-  minutes-kept : (n : ℕ) (s : State A) → Every p (s .list) → Every p (s .arrived) → KeptAll p (minutesLists C R n s) (minutes C R n s)
+  minutes-kept : (n : ℕ) (s : State A) → Every p (s .list) → Every (λ a. p (a .who)) (s .arrived) → KeptAll p (minutesLists C R n s) (minutes C R n s)
   unfolding minutes minutesLists minute minuteLists
   minutes-kept zero s h g = record { lists = tt; list = h; arrived = g }
   minutes-kept (suc n) s h g =

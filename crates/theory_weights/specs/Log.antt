@@ -9,7 +9,7 @@ use lib.Dec.{leb}
 use borrow.Author.Tests.{leb-true, leb-false}
 use Rattle.rules.specs.Lists.{fold}
 use Rattle.rules.specs.Files.{Case}
-use Rattle.rules.specs.Turns.{Place, same, served, State, Visit, Turn, Rules, lastStation, entered, arriving, elements, next, serveNext, turns, visit, minute, minutes, runFrom}
+use Rattle.rules.specs.Turns.{Place, same, served, State, Visit, Turn, Rules, lastStation, entered, Arrival, arriving, elements, next, serveNext, turns, visit, minute, minutes, runFrom}
 use Rattle.rules.specs.Turns.Turn.{nobody, somebody}
 use Rattle.rules.specs.Single.{enters, serveTrain, singleRules, firstMarks, single}
 use Rattle.theory_lists.specs.Every.{Every, every-append, every-more, every-one}
@@ -42,12 +42,12 @@ module _ {A : Type 0} {p : A → Type 0} where
 
 -- an asker served in minute t logs arrivals of minute t only
 abbrev pub Prompt : {A : Type 0} → Rules A → Type 0
-Prompt {A} R = (t : ℕ) (e : Place) (l : List A) (a : A) → Every (λ b. R .mark b .minute ≡ t) (R .serve t e l a .arrived)
+Prompt {A} R = (t : ℕ) (e : Place) (l : List A) (a : A) → Every (λ v. v .minute ≡ t) (R .serve t e l a .arrived)
 
 module _ {A : Type 0} (C : Case) (R : Rules A) (prompt : Prompt R) where
   -- the arrivals v have grown into w in minute t
-  abbrev InMinute : ℕ → List A → List A → Type 0
-  InMinute t = Grown (λ a. R .mark a .minute ≡ t)
+  abbrev InMinute : ℕ → List (Arrival A) → List (Arrival A) → Type 0
+  InMinute t = Grown (λ v. v .minute ≡ t)
 
   turns-log : (k t : ℕ) (e : Place) (v : Visit A) → InMinute t (v .arrived) (turns C R k t e v .arrived)
   unfolding turns
@@ -71,35 +71,35 @@ module _ {A : Type 0} (C : Case) (R : Rules A) (prompt : Prompt R) where
   unfolding minute
   minute-logs t s = visits-log t (elements C) _
 
-  minutes-log : (n : ℕ) (s : State A) → s .arrived ≡ [] → Every (λ a. R .mark a .minute < n) (minutes C R n s .arrived)
+  minutes-log : (n : ℕ) (s : State A) → s .arrived ≡ [] → Every (λ a. a .minute < n) (minutes C R n s .arrived)
   unfolding minutes
-  minutes-log zero s h = subst (Every (λ a. R .mark a .minute < 0)) (sym h) tt
+  minutes-log zero s h = subst (Every (λ a. a .minute < 0)) (sym h) tt
   minutes-log (suc n) s h =
       grown-all (grown-same _ (λ a e. omega arith) (minute-logs n (minutes C R n s))) (every-more _ _ (λ a l. omega arith) (minutes C R n s .arrived) (minutes-log n s h))
 
-  minutes-later : (n m : ℕ) (s : State A) → n ≤ m → Grown (λ a. n ≤ R .mark a .minute) (minutes C R n s .arrived) (minutes C R m s .arrived)
+  minutes-later : (n m : ℕ) (s : State A) → n ≤ m → Grown (λ a. n ≤ a .minute) (minutes C R n s .arrived) (minutes C R m s .arrived)
   unfolding minutes
   minutes-later n zero s h =
       let eq : 0 ≡ n = omega arith in
-      subst (λ (i : ℕ). Grown (λ a. i ≤ R .mark a .minute) (minutes C R i s .arrived) (s .arrived)) eq (grown-not (s .arrived))
+      subst (λ (i : ℕ). Grown (λ a. i ≤ a .minute) (minutes C R i s .arrived) (s .arrived)) eq (grown-not (s .arrived))
   minutes-later n (suc m) s h = go (leb n m) refl (minutes-later n m s)
     where
-      go : (b : Bool) → leb n m ≡ b → (n ≤ m → Grown (λ a. n ≤ R .mark a .minute) (minutes C R n s .arrived) (minutes C R m s .arrived))
-          → Grown (λ a. n ≤ R .mark a .minute) (minutes C R n s .arrived) (minute C R m (minutes C R m s) .arrived)
+      go : (b : Bool) → leb n m ≡ b → (n ≤ m → Grown (λ a. n ≤ a .minute) (minutes C R n s .arrived) (minutes C R m s .arrived))
+          → Grown (λ a. n ≤ a .minute) (minutes C R n s .arrived) (minute C R m (minutes C R m s) .arrived)
       go true e ih =
           let le : n ≤ m = leb-true n m e in
           grown-then (ih le) (grown-same _ (λ a q. omega arith) (minute-logs m (minutes C R m s)))
       go false e ih =
           let eq : n ≡ suc m = omega (arith, leb-false n m e) in
-          subst (λ (i : ℕ). Grown (λ a. i ≤ R .mark a .minute) (minutes C R i s .arrived) (minutes C R (suc m) s .arrived)) (sym eq) (grown-not _)
+          subst (λ (i : ℕ). Grown (λ a. i ≤ a .minute) (minutes C R i s .arrived) (minutes C R (suc m) s .arrived)) (sym eq) (grown-not _)
 
   -- what the run after minute m has logged arrived by m
-  pub run-logged : (l : List A) (m : ℕ) → Every (λ a. R .mark a .minute ≤ m) (runFrom C R l m .arrived)
+  pub run-logged : (l : List A) (m : ℕ) → Every (λ a. a .minute ≤ m) (runFrom C R l m .arrived)
   unfolding runFrom
   run-logged l m = every-more _ _ (λ a h. omega arith) (minutes C R (suc m) _ .arrived) (minutes-log (suc m) _ refl)
 
   -- what the run logs after minute m arrives after m
-  pub run-later : (l : List A) (m n : ℕ) → m ≤ n → Grown (λ a. m < R .mark a .minute) (runFrom C R l m .arrived) (runFrom C R l n .arrived)
+  pub run-later : (l : List A) (m n : ℕ) → m ≤ n → Grown (λ a. m < a .minute) (runFrom C R l m .arrived) (runFrom C R l n .arrived)
   unfolding runFrom
   run-later l m n h = minutes-later (suc m) (suc n) _ (omega arith)
 
