@@ -7,7 +7,7 @@ use Prim.Native.Nat.{ℕ, _≤_, _<_}
 use native.Mathlib.Omega.{arith}
 use lib.ListN.{length}
 use borrow.Author.Tests.{lt-ltb, le-ltb}
-use Rattle.rules.specs.Refusals.{Result, refuse}
+use Rattle.rules.specs.Refusals.{nowhere, Result, refuse}
 use Rattle.rules.specs.Refusals.Result.{refused, answer}
 use Rattle.rules.specs.Figures as rules
 use Rattle.rules.specs.Calls.{Run, stoppedRun, wholeRun, trainRun, textOf, filled, Memory, short, Lent, lent, call, runCall, listingCall, figuresCall}
@@ -43,7 +43,7 @@ module _ (asked : ℕ) (rows weights text : List ℕ) where
   long l m h = rw (le-ltb (length rows) 16384 l, le-ltb (length weights) 40320 m, le-ltb (length text) asked h)
 
 module _ {A : Type 0} (asked : ℕ) (value : Run → A) (text : Run → List ℕ) (m : Memory) (U : Result Run) where
-  call-short : short asked m ≡ true → call asked value text m U ≡ record { result = refuse 14 0 0; memory = m }
+  call-short : short asked m ≡ true → call asked value text m U ≡ record { result = refuse 14 nowhere; memory = m }
   call-short h = rw (h, call)
 
   pub call-long : short asked m ≡ false → call asked value text m U ≡ lent asked value text m U
@@ -60,7 +60,7 @@ module _ {A : Type 0} (asked : ℕ) (value : Run → A) (text : Run → List ℕ
 
 -- memory too short
 short-gives : {A B : Type 0} (told : Result A → B) (asked : ℕ) (value : Run → A) (text : Run → List ℕ) (m : Memory) (U : Result Run) {b : B}
-    → b ≡ told (refuse 14 0 0) → short asked m ≡ true → Gives told (call asked value text m U) b (m .rows) (m .weights)
+    → b ≡ told (refuse 14 nowhere) → short asked m ≡ true → Gives told (call asked value text m U) b (m .rows) (m .weights)
 short-gives {A} told asked value text m U q h =
     let z = call-short asked value text m U h in record {
       result = q ∙ sym (ap (λ (L : Lent A). told (L .result)) z);

@@ -2,18 +2,17 @@
 -- Each law goes by the cases of a result. Assumes nothing.
 use mathlib.Core.Path.{_≡_, refl, sym, ap, _∙_, subst}
 use mathlib.Core.Bool.{Bool, true, false}
-use mathlib.Core.List.{List, [], _∷_}
-use Prim.Native.Nat.{ℕ, zero, suc, _≤_}
+use mathlib.Core.List.{List, []}
+use Prim.Native.Nat.{ℕ, _≤_}
 use native.Mathlib.Omega.{arith}
 use lib.ListN.{length}
 use lib.Dec.{leb, ltb}
 use borrow.Author.Tests.{ltb-false}
-use Rattle.rules.specs.Refusals.{Refusal, Rule, _when_, verdict, Result, refuse, then, unless}
-use Rattle.rules.specs.Refusals.Fault.{noTrain, stopTooLate}
+use Rattle.rules.specs.Refusals.{Refusal, nowhere, Result, refuse, then, answerUnless}
 use Rattle.rules.specs.Refusals.Result.{refused, answer}
 use Rattle.rules.specs.Files.{Case, files, word}
 use Rattle.rules.specs.Joint.{joint}
-use Rattle.rules.specs.Calls.{afterArguments, Run, runTo, noSuchTrain, stoppedRun, wholeRun, trainRun, filled}
+use Rattle.rules.specs.Calls.{Run, runTo, noSuchTrain, stoppedRun, wholeRun, trainRun, filled}
 use Rattle.theory_sound.specs.Places.{Told, files-told}
 use Rattle.file_lookup.specs.declared.Sizes.{Sizes}
 use Rattle.file_lookup.specs.declared.Files.{Files}
@@ -40,16 +39,6 @@ told-fits h r t = record {
 pub start-tells : (cs bk : List ℕ) (m : ℕ) (f : Files) → Start cs bk m f → Tells f
 start-tells cs bk m (Sound s) h = tt
 start-tells cs bk m (Unsound n f p) h = h
-
--- a refusal of an argument stays, and an argument that stands goes on
-unless-then : {A B D : Type 0} (n : ℕ) (f : A → Result B) (go : B → Result D) (a : A) → then (unless n 0 0 f a) go ≡ unless n 0 0 (λ x. then (f x) go) a
-unless-then zero f go a = refl
-unless-then (suc n) f go a = refl
-
-pub arguments-then : {D : Type 0} (rule : Case → List Rule) (go : Case → Result D) (R : Result Case)
-    → then (then R (λ C. afterArguments (rule C) answer C)) go ≡ then R (λ C. afterArguments (rule C) go C)
-arguments-then rule go (refused r) = refl
-arguments-then rule go (answer C) = unless-then (verdict (rule C)) answer go C
 
 module _ (cs bk : List ℕ) where
   -- a result that is a refusal, or the files' case of which P holds
@@ -94,7 +83,7 @@ module _ (cs bk : List ℕ) where
 
   stop-run : (m : ℕ) → then (forStop cs bk m) (runTo m) ≡ stoppedRun cs bk m
   unfolding forStop stoppedRun
-  stop-run m = arguments-then (λ C. stopTooLate when ltb (C .head .lastMinute) m ∷ []) (runTo m) (files cs bk)
+  stop-run m = refl
 
   -- ---- the run over the whole window, from the last minute in the head's bytes
 
@@ -127,15 +116,11 @@ module _ (cs bk : List ℕ) where
 
   train-run : (k : ℕ) → then (forTrain cs bk k) (runTo (word cs 3)) ≡ trainRun cs bk k
   unfolding forTrain trainRun
-  train-run k =
-      arguments-then (λ C. noTrain when noSuchTrain C k ∷ []) (runTo (word cs 3)) (files cs bk)
-      ∙ go (files cs bk) refl
+  train-run k = go (train-judged k)
     where
-      go : (R : Result Case) → files cs bk ≡ R
-          → then R (λ C. afterArguments (noTrain when noSuchTrain C k ∷ []) (runTo (word cs 3)) C)
-          ≡ then R (λ C. afterArguments (noTrain when noSuchTrain C k ∷ []) (runTo (C .head .lastMinute)) C)
-      go (refused r) e = refl
-      go (answer C) e = ap (λ (m : ℕ). afterArguments (noTrain when noSuchTrain C k ∷ []) (runTo m) C) (minute-agrees cs bk C e)
+      go : Judged (In (word cs 3)) (forTrain cs bk k) → then (forTrain cs bk k) (runTo (word cs 3)) ≡ then (forTrain cs bk k) (λ C. runTo (C .head .lastMinute) C)
+      go (stopped r h q) = rw q
+      go (goes C e h q) = rw q (ap (λ (m : ℕ). runTo m C) (minute-agrees cs bk C e))
 
   -- ---- from what the code was told
 
@@ -192,7 +177,7 @@ module _ (cs bk : List ℕ) (m : ℕ) {f : Files} {rows weights : List ℕ} {a :
       where
         go : Came (b .of) m r list ws → Laid (runOf cs bk m f) rows weights a tables ws rows′ weights′
         go (over met h) =
-            let U : runOf cs bk m f ≡ refuse 12 0 0 = runs cs bk m e b ∙ ap (λ (n : ℕ). unless n 0 0 answer (record { of = b .of; state = joint (b .of) m })) met in record {
+            let U : runOf cs bk m f ≡ refuse 12 nowhere = runs cs bk m e b ∙ ap (λ (n : ℕ). answerUnless n nowhere (record { of = b .of; state = joint (b .of) m })) met in record {
               result = q ∙ sym (ap (λ (W : Result Run). answerOf (entries W)) U);
               rows-are = z ∙ sym (ap (λ (W : Result Run). rowsAfter W rows) U);
               weights-are = w ∙ sym (ap (λ (W : Result Run). weightsAfter W weights) U);
@@ -209,7 +194,7 @@ module _ (cs bk : List ℕ) (m : ℕ) {f : Files} {rows weights : List ℕ} {a :
         go (over met h) = absurd (fits h)
         go (stands met h few held weighed) =
             let u : Run = record { of = b .of; state = joint (b .of) m } in
-            let U : runOf cs bk m f ≡ answer u = runs cs bk m e b ∙ ap (λ (n : ℕ). unless n 0 0 answer u) met in
+            let U : runOf cs bk m f ≡ answer u = runs cs bk m e b ∙ ap (λ (n : ℕ). answerUnless n nowhere u) met in
             let trains : length (b .of .trains) ≡ s .trains = sym (ap (λ (z : Sizes). z .trains) (b .sizes)) in
             let z = fills u h (subst (λ (n : ℕ). Held n (joint (b .of) m .list) list) trains held) weighed in record {
               result = q ∙ ap answered (sym h) ∙ sym (ap (λ (W : Result Run). answerOf (entries W)) U);

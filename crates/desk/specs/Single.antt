@@ -9,8 +9,7 @@ use native.Mathlib.Omega.{arith}
 use lib.ListN.{length, getD}
 use lib.Dec.{leb}
 use borrow.Author.Tests.{leb-false}
-use Rattle.rules.specs.Refusals.{_when_, Result, then}
-use Rattle.rules.specs.Refusals.Fault.{wrongChoice, noTrain}
+use Rattle.rules.specs.Refusals.{Result, then}
 use Rattle.rules.specs.Refusals.Result.{refused, answer}
 use Rattle.rules.specs.Files.{Case, files}
 use Rattle.rules.specs.Single.{arrival}
@@ -33,7 +32,7 @@ use Rattle.single.specs.Low.{words-small, tables-last}
 use Rattle.desk.specs.declared.Answer.{Answer}
 use Rattle.desk.specs.Answers.{answered, minuteAnswer, singleAnswer}
 use Rattle.desk.specs.Steps.{filesAnswer, Tells}
-use Rattle.desk.specs.Laws.{arguments-then, Judged, refused-files, argument-fits}
+use Rattle.desk.specs.Laws.{Judged, refused-files, argument-fits}
 use Rattle.desk.specs.Laws.Judged.{stopped, goes}
 
 -- ---- bytes
@@ -59,7 +58,7 @@ pub record Chosen (x : List ℕ) (k : ℕ) (C : Case) : Type 0 where
 module _ (cs bk x : List ℕ) (k : ℕ) where
   single-run : then (forSingle cs bk x k) (λ D. answer (arrival D x k)) ≡ singleRun cs bk x k
   unfolding forSingle singleRun
-  single-run = arguments-then (λ C. wrongChoice when choiceBroken C x ∷ noTrain when noSuchTrain C k ∷ []) (λ D. answer (arrival D x k)) (files cs bk)
+  single-run = refl
 
   single-judged : Judged cs bk (Chosen x k) (forSingle cs bk x k)
   unfolding forSingle noSuchTrain

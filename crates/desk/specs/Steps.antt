@@ -49,7 +49,7 @@ Start cs bk m (Unsound n f p) = Fits n f p
 -- and the run after it, to minute m
 abbrev pub runOf : List ℕ → List ℕ → ℕ → Files → Result Run
 runOf cs bk m (Sound s) = then (files cs bk) (runTo m)
-runOf cs bk m (Unsound n f p) = refuse n f p
+runOf cs bk m (Unsound n f p) = refuse n (record { file = f; place = p })
 
 -- the refusal of files as an answer
 abbrev pub filesAnswer : Files → Answer

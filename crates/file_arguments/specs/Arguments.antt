@@ -5,25 +5,24 @@ use mathlib.Core.List.{List, [], _∷_}
 use Prim.Native.Nat.{ℕ, _+_, _-_, _/_}
 use lib.ListN.{length}
 use lib.Dec.{leb, ltb, eqb}
-use Rattle.rules.specs.Refusals.{Result, then, _when_}
+use Rattle.rules.specs.Refusals.{Result, _when_}
 use Rattle.rules.specs.Refusals.Fault.{wrongChoice, noTrain, stopTooLate}
-use Rattle.rules.specs.Refusals.Result.{answer}
-use Rattle.rules.specs.Files.{Case, byte, files}
-use Rattle.rules.specs.Calls.{afterArguments, choiceBroken, noSuchTrain}
+use Rattle.rules.specs.Files.{Case, byte}
+use Rattle.rules.specs.Calls.{caseFor, choiceBroken, noSuchTrain}
 use Rattle.file_bodies.specs.Bodies.{anyBelow}
 use Rattle.file_lookup.specs.Lookup.{tableBytes, trainPlace}
 
 -- the single run takes a choice and a train
 unfoldable pub forSingle : List ℕ → List ℕ → List ℕ → ℕ → Result Case
-forSingle cs bk x k = then (files cs bk) (λ C. afterArguments (wrongChoice when choiceBroken C x ∷ noTrain when noSuchTrain C k ∷ []) answer C)
+forSingle cs bk x k = caseFor cs bk (λ C. wrongChoice when choiceBroken C x ∷ noTrain when noSuchTrain C k ∷ [])
 
 -- the figures take a train
 unfoldable pub forTrain : List ℕ → List ℕ → ℕ → Result Case
-forTrain cs bk k = then (files cs bk) (λ C. afterArguments (noTrain when noSuchTrain C k ∷ []) answer C)
+forTrain cs bk k = caseFor cs bk (λ C. noTrain when noSuchTrain C k ∷ [])
 
 -- the run takes a stop minute
 unfoldable pub forStop : List ℕ → List ℕ → ℕ → Result Case
-forStop cs bk m = then (files cs bk) (λ C. afterArguments (stopTooLate when ltb (C .head .lastMinute) m ∷ []) answer C)
+forStop cs bk m = caseFor cs bk (λ C. stopTooLate when ltb (C .head .lastMinute) m ∷ [])
 
 -- the number of pairs of train k's table is at most its index in the choice
 unfoldable pub pastTable : List ℕ → List ℕ → List ℕ → ℕ → Bool

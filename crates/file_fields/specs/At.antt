@@ -9,8 +9,8 @@ use lib.ListN.{length, take, drop, length-take, length-drop}
 use lib.Seq.{getD-take, getD-drop, drop-drop}
 use lib.Dec.{leb, ltb}
 use borrow.Author.Tests.{leb-true, lt-ltb, le-ltb, le-leb, lt-leb}
-use Rattle.rules.specs.Refusals.{Result, verdict, unless}
-use Rattle.rules.specs.Files.{File, fileNumber, Contents, byte, word, size, body, fieldRules, more, readField}
+use Rattle.rules.specs.Refusals.{Result, then, judged}
+use Rattle.rules.specs.Files.{File, spot, Contents, byte, word, size, body, fieldRules, more, readField}
 use Rattle.file_fields.specs.declared.Field.the-variants.{Whole, Ended, Overrun}
 use Rattle.file_fields.specs.Fields.{past, whole, bodyAt, fieldAt}
 
@@ -53,14 +53,14 @@ module _ (l : List ℕ) (i : ℕ) where
 
   -- the reading goes on past it
   pub read-here : (go : ℕ → List ℕ → Contents → Result Contents) (f : File) (c : Contents) → i < length l
-      → readField go f i (drop i l) c ≡ unless (verdict (fieldRules f c i (drop i l))) (fileNumber f) i (go (past l i) (drop (past l i) l)) (more c i (byte l i) bodyHere)
+      → readField go f i (drop i l) c ≡ then (judged (fieldRules f c i (drop i l)) (spot f i) (more c i (byte l i) bodyHere)) (go (past l i) (drop (past l i) l))
   unfolding readField
   read-here go f c h =
       front (drop i l) (omega (arith, length-drop i l))
       ∙ rw (drop-drop (3 + size (drop i l)) i l, past-here, tag-here, body-here)
     where
       front : (m : List ℕ) → 0 < length m
-          → readField go f i m c ≡ unless (verdict (fieldRules f c i m)) (fileNumber f) i (go (i + (3 + size m)) (drop (3 + size m) m)) (more c i (byte m 0) (body m))
+          → readField go f i m c ≡ then (judged (fieldRules f c i m) (spot f i) (more c i (byte m 0) (body m))) (go (i + (3 + size m)) (drop (3 + size m) m))
       front [] h = absurd (omega arith)
       front (b ∷ m) h = refl
 

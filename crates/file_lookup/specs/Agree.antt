@@ -11,7 +11,7 @@ use borrow.Author.Tests.{lt-ltb, le-ltb, le-leb, lt-leb, eqb-true}
 use Rattle.rules.specs.Lists.{one, each, keep}
 use Rattle.rules.specs.Refusals.{Result, refuse}
 use Rattle.rules.specs.Refusals.Result.{answer}
-use Rattle.rules.specs.Files.{File, Contents, Case, Table, Train, byte, word, tableOf, trainOf, more, read, tablesOf, lacking}
+use Rattle.rules.specs.Files.{File, spot, Contents, Case, Table, Train, byte, word, tableOf, trainOf, more, read, tablesOf, lacking}
 use Rattle.rules.specs.Files.File.{case, book}
 use Rattle.file_bodies.specs.Bodies.{badLength}
 use Rattle.theory_lists.specs.Each.{each-append, map-append}
@@ -171,7 +171,7 @@ module _ (cs bk : List ℕ) (c k : Contents) (hc : read case cs ≡ answer c) (h
   -- the first place without a table is refused; the case stands where there is none
   abbrev atPlace : List ℕ → Case → Result Case
   atPlace [] C = answer C
-  atPlace (i ∷ l) C = refuse 11 0 i
+  atPlace (i ∷ l) C = refuse 11 (spot case i)
 
   lacking-places : (l : List ℕ) (C : Case)
       → lacking (each (λ i. one (eqb (byte cs i) 4) (tablesOf c k (byte cs (i + 4)))) l) (each (λ i. one (eqb (byte cs i) 4) (trainOf i (bodyAt cs i))) l) C ≡ atPlace (keep (lacks cs bk) l) C
@@ -188,14 +188,14 @@ module _ (cs bk : List ℕ) (c k : Contents) (hc : read case cs ≡ answer c) (h
       go false x h = h
 
   pub lacking-agrees : (C : Case)
-      → lacking (map (λ (a : Train). tablesOf c k (a .type)) (c .trains)) (c .trains) C ≡ cond (ltb (lackingPlace cs bk) (length cs)) (refuse 11 0 (lackingPlace cs bk)) (answer C)
+      → lacking (map (λ (a : Train). tablesOf c k (a .type)) (c .trains)) (c .trains) C ≡ cond (ltb (lackingPlace cs bk) (length cs)) (refuse 11 (spot case (lackingPlace cs bk))) (answer C)
   lacking-agrees C =
       ap (λ (x : List (List Table)). lacking x (c .trains) C) (of-train cs (tablesOf c k) c hc)
       ∙ ap (λ (x : List Train). lacking (each (λ i. one (eqb (byte cs i) 4) (tablesOf c k (byte cs (i + 4)))) (places cs)) x C) (trains-decoded case cs c hc)
       ∙ lacking-places (places cs) C
       ∙ go (keep (lacks cs bk) (places cs)) refl
     where
-      go : (x : List ℕ) → keep (lacks cs bk) (places cs) ≡ x → atPlace x C ≡ cond (ltb (lackingPlace cs bk) (length cs)) (refuse 11 0 (lackingPlace cs bk)) (answer C)
+      go : (x : List ℕ) → keep (lacks cs bk) (places cs) ≡ x → atPlace x C ≡ cond (ltb (lackingPlace cs bk) (length cs)) (refuse 11 (spot case (lackingPlace cs bk))) (answer C)
       go [] e =
           let p : lackingPlace cs bk ≡ length cs = first-place (lacks cs bk) cs ∙ ap (λ (y : List ℕ). headOr y (length cs)) e in
           rw (p, le-ltb (length cs) (length cs) (omega arith))

@@ -9,7 +9,7 @@ use lib.Dec.{ltb}
 use borrow.Author.Tests.{lt-ltb, le-ltb}
 use Rattle.rules.specs.Refusals.{Result, then, refuse}
 use Rattle.rules.specs.Refusals.Result.{refused, answer}
-use Rattle.rules.specs.Files.{Contents, Case, Train, read, tablesOf, lacking, caseOf, files}
+use Rattle.rules.specs.Files.{spot, Contents, Case, Train, read, tablesOf, lacking, caseOf, files}
 use Rattle.rules.specs.Files.File.{case, book}
 use Rattle.file_reader.specs.declared.Counts.{Counts}
 use Rattle.file_reader.specs.declared.Reading.{Reading}
@@ -71,7 +71,7 @@ module _ (cs bk : List ℕ) where
       unfolding files caseOf
       both x t = rw (of-case .is) (go (read book bk) refl)
         where
-          to : (x : Bool) (c k : Contents) → s ≡ countsOf c → filesOf (cond x (refuse 11 0 i) (answer (caseOf c k))) ≡ cond x (Unsound 11 0 i) (Sound (record { stations = s .stations; tracks = s .tracks; trains = s .trains }))
+          to : (x : Bool) (c k : Contents) → s ≡ countsOf c → filesOf (cond x (refuse 11 (spot case i)) (answer (caseOf c k))) ≡ cond x (Unsound 11 0 i) (Sound (record { stations = s .stations; tracks = s .tracks; trains = s .trains }))
           to true c k n = refl
           to false c k n = sym (ap (λ (w : Counts). Sound (record { stations = w .stations; tracks = w .tracks; trains = w .trains })) n)
 

@@ -5,9 +5,9 @@ use mathlib.Core.List.{List, [], _∷_}
 use Prim.Native.Nat.{ℕ, zero, suc, _≤_}
 use lib.ListN.{length}
 use Rattle.rules.specs.Refusals.{Refusal, verdict}
-use Rattle.rules.specs.Refusals.Result.{refused, answer}
-use Rattle.rules.specs.Files.{File, Contents, fileNumber, fieldRules, endRules, readField, readFields, empty, read}
-use Rattle.theory_sound.specs.Verdicts.{refused-answer, unless-refused}
+use Rattle.rules.specs.Refusals.Result.{refused}
+use Rattle.rules.specs.Files.{File, Contents, fileNumber, spot, fieldRules, endRules, readField, readFields, empty, read}
+use Rattle.theory_sound.specs.Verdicts.{refused-answer, unless-refused, onward-refused}
 use Rattle.file_reader.specs.declared.Reading.the-variants.{Refused}
 use Rattle.file_reader.specs.Reading.{reading}
 use Rattle.file_reader.specs.Bounds.{refused-place}
@@ -29,11 +29,9 @@ fields-file : (n : ℕ) (f : File) (at : ℕ) (l : List ℕ) (c : Contents) (r :
 unfolding readFields readField
 fields-file zero f at l c r h = absurd (refused-answer r c (sym h))
 fields-file (suc n) f at [] c r h =
-    unless-refused _ (verdict (endRules f c)) (fileNumber f) at answer c r h
-    (λ v q. absurd (refused-answer r c (sym q)))
-    (λ v q. sym (ap (λ (s : Refusal). s .file) q))
+    sym (ap (λ (s : Refusal). s .file) (unless-refused (verdict (endRules f c)) (spot f at) c r h .1))
 fields-file (suc n) f at (b ∷ l) c r h =
-    unless-refused _ (verdict (fieldRules f c at (b ∷ l))) (fileNumber f) at _ _ r h
+    onward-refused _ (verdict (fieldRules f c at (b ∷ l))) (spot f at) _ _ r h
     (λ v q. fields-file n f _ _ _ r q)
     (λ v q. sym (ap (λ (s : Refusal). s .file) q))
 

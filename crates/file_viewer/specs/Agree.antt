@@ -13,9 +13,9 @@ use Rattle.rules.specs.Lists.{has}
 use Rattle.rules.specs.Refusals.{Rule, Refusal, number, firstOf, verdict}
 use Rattle.rules.specs.Refusals.Fault.{overrun}
 use Rattle.rules.specs.Refusals.Result.{refused, answer}
-use Rattle.rules.specs.Files.{File, fileNumber, Contents, byte, word, size, body, headOf, trackOf, trainOf, tableOf, known, inPlace, lengths, most, howMany, headRules, stationRules, trackRules, trainRules, tableRules, bodyRules, fieldRules, more, endRules, readField, readFields, empty, read}
+use Rattle.rules.specs.Files.{File, fileNumber, spot, Contents, byte, word, size, body, headOf, trackOf, trainOf, tableOf, known, inPlace, lengths, most, howMany, headRules, stationRules, trackRules, trainRules, tableRules, bodyRules, fieldRules, more, endRules, readField, readFields, empty, read}
 use Rattle.rules.specs.Files.File.{case, book}
-use Rattle.theory_sound.specs.Verdicts.{refused-answer, answer-answer, unless-answer, unless-refused, field-accepted}
+use Rattle.theory_sound.specs.Verdicts.{refused-answer, answer-answer, unless-answer, onward-answer, unless-refused, onward-refused, field-accepted}
 use Rattle.theory_sound.specs.Verdicts.{Field as Accepted}
 use Rattle.file_fields.specs.declared.Field.{Field}
 use Rattle.file_fields.specs.declared.Field.the-variants.{Whole, Ended, Overrun}
@@ -133,11 +133,11 @@ module _ (f : File) (l : List ℕ) (d : Contents) where
           → ((j : ℕ) (e : Contents) → length l < j + n → readFields n f j (drop j l) e ≡ answer d → ToTheEnd l j e d) → ToTheEnd l i c d
       go true e ih =
           let o = leb-true (length l) i e in
-          let u = unless-answer (verdict (endRules f c)) (fileNumber f) i answer c d (rw (drop-of-length-le l o) at r) in
-          record { many = 0; fields = λ k b. absurd (omega arith); ended = field-ended l i o; holds = answer-answer c d (u .1) }
+          let u = unless-answer (verdict (endRules f c)) (spot f i) c d (rw (drop-of-length-le l o) at r) in
+          record { many = 0; fields = λ k b. absurd (omega arith); ended = field-ended l i o; holds = u .1 }
       go false e ih =
           let o = leb-false (length l) i e in
-          let u = unless-answer (verdict (fieldRules f c i (drop i l))) (fileNumber f) i _ _ d (sym (read-here l i (readFields n f) f c o) ∙ r) in
+          let u = onward-answer (verdict (fieldRules f c i (drop i l))) (spot f i) _ _ d (sym (read-here l i (readFields n f) f c o) ∙ r) in
           onward-to-the-end i c (whole-here l i f c (field-accepted f c i (drop i l) (u .0)) o) (ih (past l i) _ (omega arith) (u .1))
 
 module _ (f : File) (l : List ℕ) (r : Refusal) where
@@ -164,12 +164,11 @@ module _ (f : File) (l : List ℕ) (r : Refusal) where
     where
       go : (b : Bool) → leb (length l) i ≡ b → ((j : ℕ) (e : Contents) → readFields n f j (drop j l) e ≡ refused r → Stopped l j r) → Stopped l i r
       go true e ih =
-          unless-refused (Stopped l i r) (verdict (endRules f c)) (fileNumber f) i answer c r (rw (drop-of-length-le l (leb-true (length l) i e)) at q)
-          (λ v a. absurd (refused-answer r c (sym a)))
-          (λ v a. stopped-here i (verdict (endRules f c)) a (λ z. absurd (verdict-no-one (endRules f c) (end-no-one f c) z)))
+          let u = unless-refused (verdict (endRules f c)) (spot f i) c r (rw (drop-of-length-le l (leb-true (length l) i e)) at q) in
+          stopped-here i (verdict (endRules f c)) (u .1) (λ z. absurd (verdict-no-one (endRules f c) (end-no-one f c) z))
       go false e ih =
           let o = leb-false (length l) i e in
-          unless-refused (Stopped l i r) (verdict (fieldRules f c i (drop i l))) (fileNumber f) i _ _ r (sym (read-here l i (readFields n f) f c o) ∙ q)
+          onward-refused (Stopped l i r) (verdict (fieldRules f c i (drop i l))) (spot f i) _ _ r (sym (read-here l i (readFields n f) f c o) ∙ q)
           (λ v a. onward-stopped i (whole-here l i f c (field-accepted f c i (drop i l) v) o) (ih (past l i) _ a))
           (λ v a. stopped-here i _ a (λ z.
           let m = one-overruns f c i (drop i l) z in

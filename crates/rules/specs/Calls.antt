@@ -7,7 +7,7 @@ use Prim.Native.Nat.{ℕ, zero, suc, _-_, _*_, _/_, _%_, _^_}
 use lib.ListN.{length, getD, drop, replicate}
 use lib.Dec.{leb, ltb, eqb}
 use Rattle.rules.specs.Lists.{each, any, sum, below}
-use Rattle.rules.specs.Refusals.{number, Rule, _when_, verdict, Result, refuse, then, unless}
+use Rattle.rules.specs.Refusals.{number, Rule, _when_, nowhere, Result, refuse, then, answerUnless, judged}
 use Rattle.rules.specs.Refusals.Fault.{tooShort, wrongChoice, noTrain, stopTooLate}
 use Rattle.rules.specs.Refusals.Result.{refused, answer}
 use Rattle.rules.specs.Files.{mostTrains, Case, files}
@@ -19,8 +19,9 @@ use Rattle.rules.specs.Figures.{Figures, figures}
 
 -- ---- the answers: the files and 11, then the call's arguments, then 12 and 13 as the run meets them; 12 to 17 have file 0 and place 0
 
-abbrev pub afterArguments : {A B : Type 0} → List Rule → (A → Result B) → A → Result B
-afterArguments rules go a = unless (verdict rules) 0 0 go a
+-- the case of the two files, if it and then the call's arguments are accepted
+abbrev pub caseFor : List ℕ → List ℕ → (Case → List Rule) → Result Case
+caseFor cs bk arguments = then (files cs bk) (λ C. judged (arguments C) nowhere C)
 
 unfoldable pub choiceBroken : Case → List ℕ → Bool
 choiceBroken C x =
@@ -33,24 +34,25 @@ noSuchTrain C k = leb (length (C .trains)) k
 -- the single run: the minute in which the choice x brings train k in, or none by T
 unfoldable pub singleRun : List ℕ → List ℕ → List ℕ → ℕ → Result (Option ℕ)
 singleRun cs bk x k =
-    then (files cs bk) (λ C. afterArguments (wrongChoice when choiceBroken C x ∷ noTrain when noSuchTrain C k ∷ []) (λ D. answer (arrival D x k)) C)
+    then (caseFor cs bk (λ C. wrongChoice when choiceBroken C x ∷ noTrain when noSuchTrain C k ∷ [])) (λ C. answer (arrival C x k))
 
 -- a case and its joint run up to some minute
 pub record Run : Type 0 where
   pub of : Case
   pub state : State Entry
 
+-- the run to minute m, or the refusal that it met
 abbrev pub runTo : ℕ → Case → Result Run
-runTo m C = unless (joint C m .met) 0 0 answer (record { of = C; state = joint C m })
+runTo m C = answerUnless (joint C m .met) nowhere (record { of = C; state = joint C m })
 
 unfoldable pub stoppedRun : List ℕ → List ℕ → ℕ → Result Run
-stoppedRun cs bk m = then (files cs bk) (λ C. afterArguments (stopTooLate when ltb (C .head .lastMinute) m ∷ []) (runTo m) C)
+stoppedRun cs bk m = then (caseFor cs bk (λ C. stopTooLate when ltb (C .head .lastMinute) m ∷ [])) (runTo m)
 
 unfoldable pub wholeRun : List ℕ → List ℕ → Result Run
 wholeRun cs bk = then (files cs bk) (λ C. runTo (C .head .lastMinute) C)
 
 unfoldable pub trainRun : List ℕ → List ℕ → ℕ → Result Run
-trainRun cs bk k = then (files cs bk) (λ C. afterArguments (noTrain when noSuchTrain C k ∷ []) (runTo (C .head .lastMinute)) C)
+trainRun cs bk k = then (caseFor cs bk (λ C. noTrain when noSuchTrain C k ∷ [])) (λ C. runTo (C .head .lastMinute) C)
 
 -- ---- images
 
@@ -125,7 +127,7 @@ lent asked value text m (answer u) = record {
 
 -- 14 comes first, and writes nothing
 abbrev pub call : {A : Type 0} → ℕ → (Run → A) → (Run → List ℕ) → Memory → Result Run → Lent A
-call asked value text m r = elim (short asked m) [ true ↦ record { result = refuse (number tooShort) 0 0; memory = m } | false ↦ lent asked value text m r ]
+call asked value text m r = elim (short asked m) [ true ↦ record { result = refuse (number tooShort) nowhere; memory = m } | false ↦ lent asked value text m r ]
 
 -- ---- the calls that are lent memory
 

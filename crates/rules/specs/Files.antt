@@ -6,7 +6,7 @@ use Prim.Native.Nat.{ℕ, zero, suc, _+_, _-_, _*_, _/_}
 use lib.ListN.{length, getD, take, drop}
 use lib.Dec.{leb, ltb, eqb}
 use Rattle.rules.specs.Lists.{one, keep, any, sum, span, below, has}
-use Rattle.rules.specs.Refusals.{number, Rule, _when_, verdict, Result, refuse, then, unless}
+use Rattle.rules.specs.Refusals.{number, Rule, _when_, Spot, Result, refuse, then, judged}
 use Rattle.rules.specs.Refusals.Fault.{overrun, unknownTag, misplaced, wrongLength, wrongCount, outOfRange, wrongEnds, wrongPath, wrongTimes, wrongTable, noTable}
 use Rattle.rules.specs.Refusals.Result.{answer}
 
@@ -97,6 +97,9 @@ pub data File : Type 0 where
 abbrev pub fileNumber : File → ℕ
 fileNumber case = 0
 fileNumber book = 1
+
+abbrev pub spot : File → ℕ → Spot
+spot f at = record { file = fileNumber f; place = at }
 
 unfoldable pub known : ℕ → Bool
 known tag = has (1 ∷ 2 ∷ 3 ∷ 4 ∷ 5 ∷ []) tag
@@ -239,11 +242,10 @@ endRules book c = []
 
 -- the field at the front, and `go` reads those after it; or the end of the file
 unfoldable pub readField : (ℕ → List ℕ → Contents → Result Contents) → File → ℕ → List ℕ → Contents → Result Contents
-readField go f at [] c = unless (verdict (endRules f c)) (fileNumber f) at answer c
+readField go f at [] c = judged (endRules f c) (spot f at) c
 readField go f at (b ∷ l) c =
-    unless (verdict (fieldRules f c at (b ∷ l))) (fileNumber f) at
+    then (judged (fieldRules f c at (b ∷ l)) (spot f at) (more c at b (body (b ∷ l))))
     (go (at + (3 + size (b ∷ l))) (drop (3 + size (b ∷ l)) (b ∷ l)))
-    (more c at b (body (b ∷ l)))
 
 -- fields are read one after another; the first that isn't sound ends the reading
 unfoldable pub readFields : ℕ → File → ℕ → List ℕ → Contents → Result Contents
@@ -286,7 +288,7 @@ firstPairs (d ∷ l) = d .pairs
 abbrev pub lacking : List (List Table) → List Train → Case → Result Case
 lacking [] ts C = answer C
 lacking (ds ∷ dss) [] C = answer C
-lacking ([] ∷ dss) (t ∷ ts) C = refuse (number noTable) 0 (t .place)
+lacking ([] ∷ dss) (t ∷ ts) C = refuse (number noTable) (spot case (t .place))
 lacking ((d ∷ ds) ∷ dss) (t ∷ ts) C = lacking dss ts C
 
 unfoldable pub caseOf : Contents → Contents → Case

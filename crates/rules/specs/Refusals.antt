@@ -56,15 +56,27 @@ pub data Result (A : Type 0) : Type 0 where
   refused : Refusal → Result A
   answer : A → Result A
 
-abbrev pub refuse : {A : Type 0} → ℕ → ℕ → ℕ → Result A
-refuse n f p = refused (record { number = n; file = f; place = p })
+-- where a refusal points: the file (0 case, 1 book) and a place in it
+pub record Spot : Type 0 where
+  pub file : ℕ
+  pub place : ℕ
+
+abbrev pub nowhere : Spot
+nowhere = record { file = 0; place = 0 }
+
+abbrev pub refuse : {A : Type 0} → ℕ → Spot → Result A
+refuse n s = refused (record { number = n; file = s .file; place = s .place })
 
 -- a refusal stays; an answer goes on
 abbrev pub then : {A B : Type 0} → Result A → (A → Result B) → Result B
 then (refused r) go = refused r
 then (answer a) go = go a
 
--- a verdict of 0 lets a go on; any other is a refusal with the file and the place
-abbrev pub unless : {A B : Type 0} → ℕ → ℕ → ℕ → (A → Result B) → A → Result B
-unless zero f p go a = go a
-unless (suc n) f p go a = refuse (suc n) f p
+-- a number that was met refuses at the spot; if none was met, which is 0, a is answered
+abbrev pub answerUnless : {A : Type 0} → ℕ → Spot → A → Result A
+answerUnless zero s a = answer a
+answerUnless (suc n) s a = refuse (suc n) s
+
+-- the first broken rule refuses at the spot; if none is broken, a is answered
+abbrev pub judged : {A : Type 0} → List Rule → Spot → A → Result A
+judged rules s a = answerUnless (verdict rules) s a

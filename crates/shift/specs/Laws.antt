@@ -6,7 +6,7 @@ use Prim.Native.Nat.{ℕ, zero, suc, _+_, _-_, _≤_}
 use native.Mathlib.Omega.{arith}
 use lib.ListN.{length, take, drop, replicate, length-append}
 use lib.Seq.{sets-eq, length-sets, take-at, length-take-le}
-use Rattle.rules.specs.Refusals.{Refusal, Result, then, unless}
+use Rattle.rules.specs.Refusals.{Refusal, nowhere, Result, then, answerUnless}
 use Rattle.rules.specs.Refusals.Result.{refused, answer}
 use Rattle.rules.specs.Files.{Case, files}
 use Rattle.rules.specs.Joint.{joint}
@@ -25,7 +25,7 @@ whole-told : (cs bk : List ℕ) (r : Refusal) → wholeRun cs bk ≡ refused r �
 unfolding wholeRun
 whole-told cs bk r h = go (files cs bk) refl h
   where
-    met : (C : Case) (n : ℕ) → unless {A = Run} {B = Run} n 0 0 answer (record { of = C; state = joint C (C .head .lastMinute) }) ≡ refused r → 1 ≤ r .number
+    met : (C : Case) (n : ℕ) → answerUnless {A = Run} n nowhere (record { of = C; state = joint C (C .head .lastMinute) }) ≡ refused r → 1 ≤ r .number
     met C zero q = let z : _≡_ {A = ℕ} 0 1 = cc q in absurd (omega arith)
     met C (suc n) q =
         let is : _≡_ {A = Refusal} (record { number = suc n; file = 0; place = 0 }) r = cc q in

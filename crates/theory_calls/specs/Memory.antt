@@ -5,7 +5,7 @@ use mathlib.Core.Bool.{Bool, true, false}
 use mathlib.Core.List.{List, []}
 use Prim.Native.Nat.{ℕ}
 use Rattle.rules.specs.Lists.{each}
-use Rattle.rules.specs.Refusals.{number, Refusal, Result, refuse}
+use Rattle.rules.specs.Refusals.{number, Refusal, nowhere, Result, refuse}
 use Rattle.rules.specs.Refusals.Fault.{tooShort}
 use Rattle.rules.specs.Refusals.Result.{refused, answer}
 use Rattle.rules.specs.Calls.{Run, Memory, rowsBytes, weightsBytes, short, filled, rowImage, weightsImage, Lent, lent, call}
@@ -23,17 +23,17 @@ written asked text u m = memory (filled rowsBytes (each rowImage (u .state .list
 
 module _ {A : Type 0} (asked : ℕ) (value : Run → A) (text : Run → List ℕ) (m : Memory) where
   -- 14 comes first, and writes nothing
-  pub call-short : (r : Result Run) → short asked m ≡ true → call asked value text m r ≡ record { result = refuse (number tooShort) 0 0; memory = m }
+  pub call-short : (r : Result Run) → short asked m ≡ true → call asked value text m r ≡ record { result = refuse (number tooShort) nowhere; memory = m }
   call-short r h = ap pick h
     where
       pick : Bool → Lent A
-      pick b = elim b [ true ↦ record { result = refuse (number tooShort) 0 0; memory = m } | false ↦ lent asked value text m r ]
+      pick b = elim b [ true ↦ record { result = refuse (number tooShort) nowhere; memory = m } | false ↦ lent asked value text m r ]
 
   call-long : (r : Result Run) → short asked m ≡ false → call asked value text m r ≡ lent asked value text m r
   call-long r h = ap pick h
     where
       pick : Bool → Lent A
-      pick b = elim b [ true ↦ record { result = refuse (number tooShort) 0 0; memory = m } | false ↦ lent asked value text m r ]
+      pick b = elim b [ true ↦ record { result = refuse (number tooShort) nowhere; memory = m } | false ↦ lent asked value text m r ]
 
   -- any other refusal is handed on, and clears the required parts
   pub call-refused : (r : Result Run) (f : Refusal) → short asked m ≡ false → r ≡ refused f → call asked value text m r ≡ record { result = refused f; memory = cleared asked m }

@@ -6,7 +6,7 @@ use mathlib.Core.List.{List, []}
 use Prim.Native.Nat.{ℕ, _≤_, _<_}
 use lib.ListN.{length, take}
 use Rattle.rules.specs.Lists.{keep, sum, any}
-use Rattle.rules.specs.Refusals.{Refusal, Result, refuse, then}
+use Rattle.rules.specs.Refusals.{Refusal, nowhere, Result, refuse, then}
 use Rattle.rules.specs.Refusals.Result.{refused, answer}
 use Rattle.rules.specs.Files.{Case, files}
 use Rattle.rules.specs.Turns.{State}
@@ -27,7 +27,7 @@ use Rattle.theory_calls.specs.Memory.{memory, cleared, written, call-sho
 -- what a call that is lent memory comes to
 pub data Comes {A : Type 0} (asked : ℕ) (value : Run → A) (text : Run → List ℕ) (m : Memory) (r : Result Run) (l : Lent A) : Type 0 where
   -- the memory is too short: refusal 14, and it is untouched
-  short-of : short asked m ≡ true → l ≡ record { result = refuse 14 0 0; memory = m } → Comes asked value text m r l
+  short-of : short asked m ≡ true → l ≡ record { result = refuse 14 nowhere; memory = m } → Comes asked value text m r l
   -- the first refusal of the files, the arguments and the run, and the required parts are 0
   refused-for : (f : Refusal) → short asked m ≡ false → r ≡ refused f → l ≡ record { result = refused f; memory = cleared asked m } → Comes asked value text m r l
   -- the answer, and the required parts hold the rows, the weights and the text, 0 where they are unused

@@ -10,9 +10,9 @@ use lib.ListN.{length}
 use lib.Dec.{eqb}
 use borrow.Author.Tests.{eqb-true}
 use Rattle.rules.specs.Lists.{tick, has}
-use Rattle.rules.specs.Refusals.{verdict, Result, unless}
+use Rattle.rules.specs.Refusals.{verdict, Result, then, answerUnless}
 use Rattle.rules.specs.Refusals.Result.{answer}
-use Rattle.rules.specs.Files.{Contents, File, fileNumber, byte, trainOf, tableOf, known, inPlace, lengths, size, body, fieldRules, more, readField, readFields, empty, read}
+use Rattle.rules.specs.Files.{Contents, File, spot, byte, trainOf, tableOf, known, inPlace, lengths, size, body, fieldRules, more, readField, readFields, empty, read}
 use Rattle.rules.specs.Files.File.{case, book}
 use Rattle.theory_lists.specs.Every.{Every, every-append-one, has-every}
 use Rattle.theory_sound.specs.Steps.{length-more}
@@ -124,7 +124,7 @@ readFields-turns (suc n) (suc m) f at (b ∷ l) c h k =
     now = withField c at (b ∷ l)
 
     go : (v : ℕ) → (v ≡ 0 → Field f c at (b ∷ l)) → (length (rest (b ∷ l)) < n → length (rest (b ∷ l)) < m → on n now ≡ on m now)
-        → unless v (fileNumber f) at (on n) now ≡ unless v (fileNumber f) at (on m) now
+        → then (answerUnless v (spot f at) now) (on n) ≡ then (answerUnless v (spot f at) now) (on m)
     go zero e r = r (omega (arith, length-rest (b ∷ l), h)) (omega (arith, length-rest (b ∷ l), k))
     go (suc v) e r = refl
 

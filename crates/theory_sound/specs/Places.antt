@@ -7,11 +7,11 @@ use native.Mathlib.Omega.{arith}
 use lib.ListN.{length}
 use lib.Dec.{eqb}
 use Rattle.rules.specs.Refusals.{number, Rule, verdict, Refusal}
-use Rattle.rules.specs.Refusals.Result.{refused, answer}
-use Rattle.rules.specs.Files.{Train, Table, File, fileNumber, Contents, byte, headOf, trackOf, trainOf, tableOf, headRules, stationRules, trackRules, trainRules, tableRules, bodyRules, body, fieldRules, endRules, readField, readFields, empty, read, Case, tablesOf, lacking, caseOf, files}
+use Rattle.rules.specs.Refusals.Result.{refused}
+use Rattle.rules.specs.Files.{Train, Table, File, fileNumber, spot, Contents, byte, headOf, trackOf, trainOf, tableOf, headRules, stationRules, trackRules, trainRules, tableRules, bodyRules, body, fieldRules, endRules, readField, readFields, empty, read, Case, tablesOf, lacking, caseOf, files}
 use Rattle.rules.specs.Files.File.{case, book}
 use Rattle.theory_lists.specs.Every.{Every, every-cond}
-use Rattle.theory_sound.specs.Verdicts.{refused-answer, refused-refused, unless-refused, then-refused, verdict-few, field-accepted, past, rest, withField}
+use Rattle.theory_sound.specs.Verdicts.{refused-answer, refused-refused, unless-refused, onward-refused, then-refused, verdict-few, field-accepted, past, rest, withField}
 use Rattle.theory_sound.specs.Reading.{read-keeps}
 use Rattle.theory_sound.specs.Bounds.{Within, within-empty, within-bytes, within-more}
 
@@ -58,11 +58,10 @@ readFields-told : (n at : ℕ) (f : File) (l : List ℕ) (c : Contents) (r : Ref
 unfolding readFields readField
 readFields-told zero at f l c r p h = absurd (refused-answer r c (sym h))
 readFields-told (suc n) at f [] c r p h =
-    unless-refused (Told 10 r) (verdict (endRules f c)) (fileNumber f) at answer c r h
-    (λ z e. absurd (refused-answer r c (sym e)))
-    (told f c at (verdict (endRules f c)) r p (end-few f c))
+    let u = unless-refused (verdict (endRules f c)) (spot f at) c r h in
+    told f c at (verdict (endRules f c)) r p (end-few f c) (u .0) (u .1)
 readFields-told (suc n) at f (b ∷ l) c r p h =
-    unless-refused (Told 10 r) (verdict (fieldRules f c at (b ∷ l))) (fileNumber f) at (readFields n f (past at (b ∷ l)) (rest (b ∷ l))) (withField c at (b ∷ l)) r h
+    onward-refused (Told 10 r) (verdict (fieldRules f c at (b ∷ l))) (spot f at) (withField c at (b ∷ l)) (readFields n f (past at (b ∷ l)) (rest (b ∷ l))) r h
     (λ z e. readFields-told n (past at (b ∷ l)) f (rest (b ∷ l)) (withField c at (b ∷ l)) r (within-more f c at (b ∷ l) (field-accepted f c at (b ∷ l) z) p) e)
     (told f c at (verdict (fieldRules f c at (b ∷ l))) r p (field-few f c at (b ∷ l)))
 

@@ -8,8 +8,8 @@ use native.Mathlib.Omega.{arith}
 use lib.ListN.{length}
 use Rattle.rules.specs.Refusals.{verdict}
 use Rattle.rules.specs.Refusals.Result.{answer}
-use Rattle.rules.specs.Files.{File, fileNumber, Contents, fieldRules, endRules, readField, readFields, empty, read}
-use Rattle.theory_sound.specs.Verdicts.{answer-answer, unless-answer, Unbroken, verdict-unbroken, Field, field-accepted, past, rest, withField, length-rest}
+use Rattle.rules.specs.Files.{File, spot, Contents, fieldRules, endRules, readField, readFields, empty, read}
+use Rattle.theory_sound.specs.Verdicts.{unless-answer, onward-answer, Unbroken, verdict-unbroken, Field, field-accepted, past, rest, withField, length-rest}
 
 -- P holds at the offset of each field, of the bytes from there on and of what the fields before it hold
 module _ (f : File) (P : ℕ → List ℕ → Contents → Type 0)
@@ -19,18 +19,18 @@ module _ (f : File) (P : ℕ → List ℕ → Contents → Type 0)
   unfolding readFields readField
   fields-follow zero at l c k h p e = absurd (not-suc-le-zero h)
   fields-follow (suc n) at [] c k h p e =
-      subst (λ (x : Contents). P (at + 0) [] x × Unbroken (endRules f x)) (answer-answer c k (u .1))
+      subst (λ (x : Contents). P (at + 0) [] x × Unbroken (endRules f x)) (u .1)
       (subst (λ (m : ℕ). P m [] c) (sym (add-zero at)) p, verdict-unbroken (endRules f c) (u .0))
     where
-      u : (verdict (endRules f c) ≡ 0) × (answer c ≡ answer k)
-      u = unless-answer (verdict (endRules f c)) (fileNumber f) at answer c k e
+      u : (verdict (endRules f c) ≡ 0) × (c ≡ k)
+      u = unless-answer (verdict (endRules f c)) (spot f at) c k e
   fields-follow (suc n) at (b ∷ l) c k h p e =
       subst (λ (m : ℕ). P m [] k × Unbroken (endRules f k)) offsets
       (fields-follow n (past at (b ∷ l)) (rest (b ∷ l)) (withField c at (b ∷ l)) k shorter (step c at (b ∷ l) (u .0) p) (u .1))
     where
       u : (verdict (fieldRules f c at (b ∷ l)) ≡ 0)
           × (readFields n f (past at (b ∷ l)) (rest (b ∷ l)) (withField c at (b ∷ l)) ≡ answer k)
-      u = unless-answer (verdict (fieldRules f c at (b ∷ l))) (fileNumber f) at (readFields n f (past at (b ∷ l)) (rest (b ∷ l))) (withField c at (b ∷ l)) k e
+      u = onward-answer (verdict (fieldRules f c at (b ∷ l))) (spot f at) (withField c at (b ∷ l)) (readFields n f (past at (b ∷ l)) (rest (b ∷ l))) k e
 
       shorter : length (rest (b ∷ l)) < n
       shorter = omega (arith, length-rest (b ∷ l), h)

@@ -7,13 +7,13 @@ use native.Mathlib.Omega.{arith}
 use lib.ListN.{length}
 use lib.Dec.{leb, ltb}
 use borrow.Author.Tests.{ltb-false, leb-false}
-use Rattle.rules.specs.Refusals.{_when_, verdict}
+use Rattle.rules.specs.Refusals.{Rule, _when_, verdict, nowhere, judged}
 use Rattle.rules.specs.Refusals.Fault.{noTrain, stopTooLate}
 use Rattle.rules.specs.Refusals.Result.{answer}
 use Rattle.rules.specs.Files.{Case, files}
 use Rattle.rules.specs.Joint.{joint}
-use Rattle.rules.specs.Calls.{afterArguments, noSuchTrain, Run, runTo, stoppedRun, wholeRun, trainRun}
-use Rattle.theory_sound.specs.Verdicts.{answer-answer, then-answer, unless-answer, verdict-unbroken}
+use Rattle.rules.specs.Calls.{caseFor, noSuchTrain, Run, runTo, stoppedRun, wholeRun, trainRun}
+use Rattle.theory_sound.specs.Verdicts.{then-answer, unless-answer, Unbroken, verdict-unbroken}
 
 -- the files were accepted, and the run went to minute m and met no refusal
 pub record Answered (cs bk : List ℕ) (m : ℕ) (u : Run) : Type 0 where
@@ -25,9 +25,8 @@ pub record Answered (cs bk : List ℕ) (m : ℕ) (u : Run) : Type 0 where
 -- a run to minute m that was answered
 run-answer : (m : ℕ) (C : Case) (u : Run) → runTo m C ≡ answer u → (C ≡ u .of) × (joint C m .met ≡ 0) × (u .state ≡ joint C m)
 run-answer m C u e =
-    let parts = unless-answer (joint C m .met) 0 0 answer (record { of = C; state = joint C m }) u e in
-    let same = answer-answer (record { of = C; state = joint C m }) u (parts .1) in
-    (ap (λ (r : Run). r .of) same, parts .0, sym (ap (λ (r : Run). r .state) same))
+    let parts = unless-answer (joint C m .met) nowhere (record { of = C; state = joint C m }) u e in
+    (ap (λ (r : Run). r .of) (parts .1), parts .0, sym (ap (λ (r : Run). r .state) (parts .1)))
 
 answered : (cs bk : List ℕ) (m : ℕ) (C : Case) (u : Run) → files cs bk ≡ answer C → m ≤ C .head .lastMinute → runTo m C ≡ answer u → Answered cs bk m u
 answered cs bk m C u f l e =
@@ -39,14 +38,21 @@ answered cs bk m C u f l e =
       state = parts .2 ∙ ap (λ (D : Case). joint D m) (parts .0);
     }
 
+-- a case with arguments that were accepted: no rule of theirs is broken
+case-for : (cs bk : List ℕ) (arguments : Case → List Rule) (C : Case) → caseFor cs bk arguments ≡ answer C → (files cs bk ≡ answer C) × Unbroken (arguments C)
+case-for cs bk arguments C e =
+    let parts = then-answer (files cs bk) (λ D. judged (arguments D) nowhere D) C e in
+    let rest = unless-answer (verdict (arguments (parts .0))) nowhere (parts .0) C (parts .2) in
+    (parts .1 ∙ ap (λ (D : Case). answer D) (rest .1), subst (λ (D : Case). Unbroken (arguments D)) (rest .1) (verdict-unbroken (arguments (parts .0)) (rest .0)))
+
 pub stopped-answer : (cs bk : List ℕ) (m : ℕ) (u : Run) → stoppedRun cs bk m ≡ answer u → Answered cs bk m u
 unfolding stoppedRun
 stopped-answer cs bk m u e =
-    let parts = then-answer (files cs bk) (λ C. afterArguments (stopTooLate when ltb (C .head .lastMinute) m ∷ []) (runTo m) C) u e in
+    let arguments : Case → List Rule = λ C. stopTooLate when ltb (C .head .lastMinute) m ∷ [] in
+    let parts = then-answer (caseFor cs bk arguments) (runTo m) u e in
     let C = parts .0 in
-    let rules = stopTooLate when ltb (C .head .lastMinute) m ∷ [] in
-    let rest = unless-answer (verdict rules) 0 0 (runTo m) C u (parts .2) in
-    answered cs bk m C u (parts .1) (ltb-false (C .head .lastMinute) m (verdict-unbroken rules (rest .0) .0)) (rest .1)
+    let sound = case-for cs bk arguments C (parts .1) in
+    answered cs bk m C u (sound .0) (ltb-false (C .head .lastMinute) m (sound .1 .0)) (parts .2)
 
 pub whole-answer : (cs bk : List ℕ) (u : Run) → wholeRun cs bk ≡ answer u → Answered cs bk (u .of .head .lastMinute) u
 unfolding wholeRun
@@ -58,11 +64,11 @@ whole-answer cs bk u e =
 pub train-answer : (cs bk : List ℕ) (k : ℕ) (u : Run) → trainRun cs bk k ≡ answer u → Answered cs bk (u .of .head .lastMinute) u × (k < length (u .of .trains))
 unfolding trainRun noSuchTrain
 train-answer cs bk k u e =
-    let parts = then-answer (files cs bk) (λ C. afterArguments (noTrain when leb (length (C .trains)) k ∷ []) (runTo (C .head .lastMinute)) C) u e in
+    let arguments : Case → List Rule = λ C. noTrain when leb (length (C .trains)) k ∷ [] in
+    let parts = then-answer (caseFor cs bk arguments) (λ C. runTo (C .head .lastMinute) C) u e in
     let C = parts .0 in
-    let rules = noTrain when leb (length (C .trains)) k ∷ [] in
-    let rest = unless-answer (verdict rules) 0 0 (runTo (C .head .lastMinute)) C u (parts .2) in
-    let same = run-answer (C .head .lastMinute) C u (rest .1) .0 in (
-      subst (λ (m : ℕ). Answered cs bk m u) (ap (λ (D : Case). D .head .lastMinute) same) (answered cs bk (C .head .lastMinute) C u (parts .1) (omega arith) (rest .1)),
-      subst (λ (D : Case). k < length (D .trains)) same (leb-false (length (C .trains)) k (verdict-unbroken rules (rest .0) .0)),
+    let sound = case-for cs bk arguments C (parts .1) in
+    let same = run-answer (C .head .lastMinute) C u (parts .2) .0 in (
+      subst (λ (m : ℕ). Answered cs bk m u) (ap (λ (D : Case). D .head .lastMinute) same) (answered cs bk (C .head .lastMinute) C u (sound .0) (omega arith) (parts .2)),
+      subst (λ (D : Case). k < length (D .trains)) same (leb-false (length (C .trains)) k (sound .1 .0)),
     )

@@ -1,6 +1,6 @@
 -- An accepted field breaks no rule: what a verdict of 0 says of each rule, and what an answer says of the steps before it.
 -- Each law is by cases on the first rule, the verdict or the result. Assumes nothing.
-use mathlib.Core.Path.{_≡_, refl, ap}
+use mathlib.Core.Path.{_≡_, refl, sym, ap}
 use mathlib.Core.Bool.{Bool, true, false}
 use mathlib.Core.List.{List, [], _∷_}
 use Prim.Native.Nat.{ℕ, zero, suc, _+_, _-_, _≤_, _<_}
@@ -8,7 +8,7 @@ use native.Mathlib.Omega.{arith}
 use lib.ListN.{length, drop, length-drop}
 use borrow.Author.Tests.{ltb-false, leb-false, not-false}
 use Rattle.rules.specs.Lists.{has}
-use Rattle.rules.specs.Refusals.{Fault, number, Rule, firstOf, verdict, Refusal, Result, then, unless}
+use Rattle.rules.specs.Refusals.{Fault, number, Rule, firstOf, verdict, Refusal, Spot, Result, then, answerUnless}
 use Rattle.rules.specs.Refusals.Fault.{overrun, unknownTag, misplaced, wrongLength, wrongCount, outOfRange, wrongEnds, wrongPath, wrongTimes, wrongTable, noTable, noRoom, tooHeavy, tooShort, wrongChoice, noTrain, stopTooLate}
 use Rattle.rules.specs.Refusals.Result.{refused, answer}
 use Rattle.rules.specs.Files.{File, Contents, byte, known, inPlace, lengths, most, howMany, size, body, bodyRules, fieldRules, more}
@@ -29,19 +29,29 @@ pub then-answer : {A B : Type 0} (r : Result A) (go : A → Result B) (b : B) �
 then-answer (refused r) go b h = absurd (refused-answer r b h)
 then-answer (answer a) go b h = (a, refl, h)
 
-pub unless-answer : {A B : Type 0} (n f p : ℕ) (go : A → Result B) (a : A) (b : B) → unless n f p go a ≡ answer b
+pub unless-answer : {A : Type 0} (n : ℕ) (s : Spot) (a b : A) → answerUnless n s a ≡ answer b → (n ≡ 0) × (a ≡ b)
+unless-answer zero s a b h = (refl, answer-answer a b h)
+unless-answer (suc n) s a b h = absurd (refused-answer _ b h)
+
+-- and of what goes on from there
+pub onward-answer : {A B : Type 0} (n : ℕ) (s : Spot) (a : A) (go : A → Result B) (b : B) → then (answerUnless n s a) go ≡ answer b
     → (n ≡ 0) × (go a ≡ answer b)
-unless-answer zero f p go a b h = (refl, h)
-unless-answer (suc n) f p go a b h = absurd (refused-answer _ b h)
+onward-answer zero s a go b h = (refl, h)
+onward-answer (suc n) s a go b h = absurd (refused-answer _ b h)
 
 pub refused-refused : {A : Type 0} (r s : Refusal) → _≡_ {A = Result A} (refused r) (refused s) → r ≡ s
 refused-refused r s e = cc
 
+pub unless-refused : {A : Type 0} (n : ℕ) (s : Spot) (a : A) (r : Refusal) → answerUnless n s a ≡ refused r
+    → (1 ≤ n) × (record { number = n; file = s .file; place = s .place } ≡ r)
+unless-refused zero s a r h = absurd (refused-answer r a (sym h))
+unless-refused (suc n) s a r h = (omega arith, refused-refused _ r h)
+
 -- a refusal is the verdict's, or comes from what goes on
-pub unless-refused : {A B : Type 0} (X : Type 0) (n f p : ℕ) (go : A → Result B) (a : A) (r : Refusal) → unless n f p go a ≡ refused r
-    → (n ≡ 0 → go a ≡ refused r → X) → (1 ≤ n → record { number = n; file = f; place = p } ≡ r → X) → X
-unless-refused X zero f p go a r h on off = on refl h
-unless-refused X (suc n) f p go a r h on off = off (omega arith) (refused-refused _ r h)
+pub onward-refused : {A B : Type 0} (X : Type 0) (n : ℕ) (s : Spot) (a : A) (go : A → Result B) (r : Refusal) → then (answerUnless n s a) go ≡ refused r
+    → (n ≡ 0 → go a ≡ refused r → X) → (1 ≤ n → record { number = n; file = s .file; place = s .place } ≡ r → X) → X
+onward-refused X zero s a go r h on off = on refl h
+onward-refused X (suc n) s a go r h on off = off (omega arith) (refused-refused _ r h)
 
 -- a refusal is the first step's, or comes from the second
 pub then-refused : {A B : Type 0} (X : Type 0) (s : Result A) (go : A → Result B) (r : Refusal) → then s go ≡ refused r

@@ -11,9 +11,9 @@ use lib.Seq.{take-nil, take-take, getD-take}
 use lib.Dec.{leb, ltb, eqb}
 use borrow.Author.Tests.{ltb-true, ltb-false, lt-ltb, le-ltb, not-false}
 use Rattle.rules.specs.Lists.{has}
-use Rattle.rules.specs.Refusals.{Rule, _when_, verdict, Result, unless}
+use Rattle.rules.specs.Refusals.{Rule, _when_, verdict, Result, then, answerUnless}
 use Rattle.rules.specs.Refusals.Fault.{overrun, unknownTag, misplaced, wrongLength, wrongCount}
-use Rattle.rules.specs.Files.{File, fileNumber, Contents, byte, known, inPlace, lengths, most, howMany, bodyRules, size, body, fieldRules, more, readField, readFields, empty, read, files}
+use Rattle.rules.specs.Files.{File, spot, Contents, byte, known, inPlace, lengths, most, howMany, bodyRules, size, body, fieldRules, more, readField, readFields, empty, read, files}
 use Rattle.rules.specs.Files.File.{case, book}
 use Rattle.theory_lists.specs.Every.{Every, every-cond, has-every}
 use Rattle.theory_sound.specs.Verdicts.{Field, field-accepted, past, rest, withField}
@@ -121,7 +121,7 @@ readFields-window zero at w f l c p h = refl
 readFields-window (suc n) at w f [] c p h = ap (λ (m : List ℕ). readFields (suc n) f at m c) (take-nil w)
 readFields-window (suc n) at zero f (b ∷ l) c p h = absurd (omega (arith, within-bytes at c p))
 readFields-window (suc n) at (suc w) f (b ∷ l) c p h =
-    ap (λ (v : ℕ). unless v (fileNumber f) at (on (b ∷ take w l)) (now (b ∷ take w l))) (verdict-take f c at (suc w) (b ∷ l) wide)
+    ap (λ (v : ℕ). then (answerUnless v (spot f at) (now (b ∷ take w l))) (on (b ∷ take w l))) (verdict-take f c at (suc w) (b ∷ l) wide)
     ∙ go (verdict (fieldRules f c at (b ∷ l))) (field-accepted f c at (b ∷ l))
     (readFields-window n (past at (b ∷ l)) left f (rest (b ∷ l)) (now (b ∷ l)))
   where
@@ -143,7 +143,7 @@ readFields-window (suc n) at (suc w) f (b ∷ l) c p h =
     go : (v : ℕ) → (v ≡ 0 → Field f c at (b ∷ l))
         → (Within (past at (b ∷ l)) (now (b ∷ l)) → 864 ≤ past at (b ∷ l) + left
         → readFields n f (past at (b ∷ l)) (take left (rest (b ∷ l))) (now (b ∷ l)) ≡ on (b ∷ l) (now (b ∷ l)))
-        → unless v (fileNumber f) at (on (b ∷ take w l)) (now (b ∷ take w l)) ≡ unless v (fileNumber f) at (on (b ∷ l)) (now (b ∷ l))
+        → then (answerUnless v (spot f at) (now (b ∷ take w l))) (on (b ∷ take w l)) ≡ then (answerUnless v (spot f at) (now (b ∷ l))) (on (b ∷ l))
     go (suc v) e r = refl
     go zero e r =
         (λ i. readFields n f (at + (3 + sized i)) (drop (3 + sized i) (b ∷ take w l)) (more c at b (body-take f c at (suc w) (b ∷ l) wide small i)))
