@@ -7,11 +7,11 @@ use Prim.Native.Nat.{ℕ, zero, suc, _+_, _≤_, _<_}
 use native.Mathlib.Omega.{arith}
 use lib.ListN.{length}
 use lib.Dec.{leb, ltb, eqb}
-use borrow.Author.Tests.{lt-ltb, le-ltb, le-leb, lt-leb, eqb-true}
+use borrow.Author.Tests.{lt-ltb, le-ltb, le-leb, lt-leb, eqb-true, ne-eqb}
 use Rattle.rules.specs.Lists.{one, each, keep}
 use Rattle.rules.specs.Refusals.{Result, refuse}
 use Rattle.rules.specs.Refusals.Result.{answer}
-use Rattle.rules.specs.Files.{File, spot, Contents, Case, Table, Train, byte, word, tableOf, trainOf, more, read, tablesOf, lacking}
+use Rattle.rules.specs.Files.{File, spot, Contents, Case, Table, Train, byte, word, tableOf, trainOf, more, read, tablesOf, lacking, noneLacking}
 use Rattle.rules.specs.Files.File.{case, book}
 use Rattle.file_bodies.specs.Bodies.{badLength}
 use Rattle.theory_lists.specs.Each.{each-append, map-append}
@@ -19,7 +19,7 @@ use Rattle.theory_lists.specs.Every.{Every, every-keep}
 use Rattle.file_fields.specs.At.{byte-part, whole-none, body-of}
 use Rattle.file_fields.specs.Fields.{past, whole, bodyAt, placesFrom, places}
 use Rattle.file_reader.specs.Laws.{table-length, train-length}
-use Rattle.file_reader.specs.Decoded.{Stands, gathered, trains-decoded}
+use Rattle.file_reader.specs.Decoded.{Stands, gathered}
 use Rattle.file_lookup.specs.Lookup.{seek, firstPlace, isTable, tablePlace, tableBytes, untabled, lacks, lackingPlace}
 use Rattle.file_lookup.specs.Laws.{places-inside}
 use Rattle.file_lookup.specs.Answers.{IsFirst}
@@ -35,6 +35,9 @@ module _ {A B : Type 0} where
       go : (b : Bool) → each (λ a. one (test a) (make a)) l ≡ map make (keep test l) → one b (make a) ++ each (λ a. one (test a) (make a)) l ≡ map make (one b a ++ keep test l)
       go true h = ap (λ (x : List B). make a ∷ x) h
       go false h = h
+
+some-length : {A : Type 0} (a : A) (l : List A) → false ≡ eqb (length (a ∷ l)) 0
+some-length a l = sym (ne-eqb (length (a ∷ l)) 0 (λ z. omega arith))
 
 -- ---- the walk stops at the first place that passes
 
@@ -85,6 +88,12 @@ module _ (f : File) (l : List ℕ) (t : ℕ) where
 
 -- ---- what is made of each train's type
 
+-- the type stands in the train's field
+type-here : (cs : List ℕ) (i : ℕ) → Stands cs i → byte cs i ≡ 4 → byte (bodyAt cs i) 1 ≡ byte cs (i + 4)
+type-here cs i s p =
+    let n = train-length (word cs (i + 1)) (ap (λ (j : ℕ). badLength j (word cs (i + 1))) (sym p) ∙ s .possible) in
+    body-byte cs i 1 (s .inside) (omega arith) ∙ ap (byte cs) (omega arith)
+
 module _ {A : Type 0} (cs : List ℕ) (make : ℕ → A) where
   train-step : (d : Contents) (i : ℕ) → Stands cs i
       → map (λ (a : Train). make (a .type)) (more d i (byte cs i) (bodyAt cs i) .trains) ≡ map (λ (a : Train). make (a .type)) (d .trains) ++ one (eqb (byte cs i) 4) (make (byte cs (i + 4)))
@@ -92,23 +101,13 @@ module _ {A : Type 0} (cs : List ℕ) (make : ℕ → A) where
   train-step d i s = map-append (λ (a : Train). make (a .type)) (d .trains) (one (eqb (byte cs i) 4) (trainOf i (bodyAt cs i))) ∙ ap (λ (x : List A). map (λ (a : Train). make (a .type)) (d .trains) ++ x) (go (eqb (byte cs i) 4) refl)
     where
       go : (b : Bool) → eqb (byte cs i) 4 ≡ b → map (λ (a : Train). make (a .type)) (one b (trainOf i (bodyAt cs i))) ≡ one b (make (byte cs (i + 4)))
-      go true e =
-          let p = eqb-true (byte cs i) 4 e in
-          let n = train-length (word cs (i + 1)) (ap (λ (j : ℕ). badLength j (word cs (i + 1))) (sym p) ∙ s .possible) in
-          let q : byte (bodyAt cs i) 1 ≡ byte cs (i + 4) = body-byte cs i 1 (s .inside) (omega arith) ∙ ap (byte cs) (omega arith) in
-          ap (λ (j : ℕ). make j ∷ []) q
+      go true e = ap (λ (j : ℕ). make j ∷ []) (type-here cs i s (eqb-true (byte cs i) 4 e))
       go false e = refl
 
-  -- the type stands in the train's field
   pub of-train : (c : Contents) → read case cs ≡ answer c → map (λ (a : Train). make (a .type)) (c .trains) ≡ each (λ i. one (eqb (byte cs i) 4) (make (byte cs (i + 4)))) (places cs)
   of-train c h = gathered case cs (λ (d : Contents). map (λ (a : Train). make (a .type)) (d .trains)) (λ i. eqb (byte cs i) 4) (λ i. make (byte cs (i + 4))) train-step c h refl
 
 -- ---- the table in the case is used, and otherwise the one in the book
-
--- nothing is in the list
-abbrev pub isNone {ℓ} : {A : Type ℓ} → List A → Bool
-isNone [] = true
-isNone (a ∷ l) = false
 
 module _ (cs bk : List ℕ) (c k : Contents) (hc : read case cs ≡ answer c) (hk : read book bk ≡ answer k) where
   module _ (t : ℕ) where
@@ -156,14 +155,14 @@ module _ (cs bk : List ℕ) (c k : Contents) (hc : read case cs ≡ answer c) (h
         go [] e (i ∷ r) g = rw (not-in-case e, found (i ∷ r) bk g)
         go [] e [] g = rw (not-in-case e, found [] bk g) (no-body bk)
 
-    pub untabled-none : untabled cs bk t ≡ isNone (tablesOf c k t)
+    untabled-none : untabled cs bk t ≡ eqb (length (tablesOf c k t)) 0
     unfolding untabled
     untabled-none = rw both-types (go inCase refl inBook refl)
       where
         go : (x : List ℕ) → inCase ≡ x → (y : List ℕ) → inBook ≡ y
-            → cond (ltb (tablePlace cs t) (length cs)) false (leb (length bk) (tablePlace bk t)) ≡ isNone (map (λ i. tableOf (bodyAt cs i)) x ++ map (λ i. tableOf (bodyAt bk i)) y)
-        go (i ∷ r) e y g = rw (in-case i r e)
-        go [] e (i ∷ r) g = rw (not-in-case e, in-book i r g)
+            → cond (ltb (tablePlace cs t) (length cs)) false (leb (length bk) (tablePlace bk t)) ≡ eqb (length (map (λ i. tableOf (bodyAt cs i)) x ++ map (λ i. tableOf (bodyAt bk i)) y)) 0
+        go (i ∷ r) e y g = rw (in-case i r e) (some-length (tableOf (bodyAt cs i)) (map (λ i. tableOf (bodyAt cs i)) r ++ map (λ i. tableOf (bodyAt bk i)) y))
+        go [] e (i ∷ r) g = rw (not-in-case e, in-book i r g) (some-length (tableOf (bodyAt bk i)) (map (λ i. tableOf (bodyAt bk i)) r))
         go [] e [] g = rw (not-in-case e, not-in-book g)
 
   -- ---- 11 by train number
@@ -173,26 +172,41 @@ module _ (cs bk : List ℕ) (c k : Contents) (hc : read case cs ≡ answer c) (h
   atPlace [] C = answer C
   atPlace (i ∷ l) C = refuse 11 (spot case i)
 
-  lacking-places : (l : List ℕ) (C : Case)
-      → lacking (each (λ i. one (eqb (byte cs i) 4) (tablesOf c k (byte cs (i + 4)))) l) (each (λ i. one (eqb (byte cs i) 4) (trainOf i (bodyAt cs i))) l) C ≡ atPlace (keep (lacks cs bk) l) C
-  unfolding lacks trainOf
-  lacking-places [] C = refl
-  lacking-places (i ∷ l) C = rw (untabled-none (byte cs (i + 4))) (go (eqb (byte cs i) 4) (tablesOf c k (byte cs (i + 4))) (lacking-places l C))
-    where
-      go : (b : Bool) (x : List Table)
-          → lacking (each (λ i. one (eqb (byte cs i) 4) (tablesOf c k (byte cs (i + 4)))) l) (each (λ i. one (eqb (byte cs i) 4) (trainOf i (bodyAt cs i))) l) C ≡ atPlace (keep (lacks cs bk) l) C
-          → lacking (one b x ++ each (λ i. one (eqb (byte cs i) 4) (tablesOf c k (byte cs (i + 4)))) l) (one b (trainOf i (bodyAt cs i)) ++ each (λ i. one (eqb (byte cs i) 4) (trainOf i (bodyAt cs i))) l) C
-          ≡ atPlace (one (cond b (isNone x) false) i ++ keep (lacks cs bk) l) C
-      go true [] h = refl
-      go true (d ∷ x) h = h
-      go false x h = h
+  -- the trains of d whose type has no table, by the places of their fields
+  abbrev placesLacking : Contents → List ℕ
+  placesLacking d = map (λ (a : Train). a .place) (keep (λ (a : Train). eqb (length (tablesOf c k (a .type))) 0) (d .trains))
 
-  pub lacking-agrees : (C : Case)
-      → lacking (map (λ (a : Train). tablesOf c k (a .type)) (c .trains)) (c .trains) C ≡ cond (ltb (lackingPlace cs bk) (length cs)) (refuse 11 (spot case (lackingPlace cs bk))) (answer C)
+  lacking-step : (d : Contents) (i : ℕ) → Stands cs i → placesLacking (more d i (byte cs i) (bodyAt cs i)) ≡ placesLacking d ++ one (lacks cs bk i) i
+  unfolding more trainOf lacks
+  lacking-step d i s =
+      ap (map (λ (a : Train). a .place)) (each-append (λ (a : Train). one (eqb (length (tablesOf c k (a .type))) 0) a) (d .trains) (one (eqb (byte cs i) 4) (trainOf i (bodyAt cs i))))
+      ∙ map-append (λ (a : Train). a .place) (keep (λ (a : Train). eqb (length (tablesOf c k (a .type))) 0) (d .trains)) _
+      ∙ ap (λ (x : List ℕ). placesLacking d ++ x) (go (eqb (byte cs i) 4) refl)
+    where
+      placed : (b : Bool) → map (λ (a : Train). a .place) (one b (trainOf i (bodyAt cs i)) ++ []) ≡ one b i
+      placed true = refl
+      placed false = refl
+
+      go : (b : Bool) → eqb (byte cs i) 4 ≡ b
+          → map (λ (a : Train). a .place) (keep (λ (a : Train). eqb (length (tablesOf c k (a .type))) 0) (one b (trainOf i (bodyAt cs i)))) ≡ one (cond b (untabled cs bk (byte cs (i + 4))) false) i
+      go true e =
+          placed (eqb (length (tablesOf c k (byte (bodyAt cs i) 1))) 0)
+          ∙ ap (λ (t : ℕ). one (eqb (length (tablesOf c k t)) 0) i) (type-here cs i s (eqb-true (byte cs i) 4 e))
+          ∙ ap (λ (b : Bool). one b i) (sym (untabled-none (byte cs (i + 4))))
+      go false e = refl
+
+  -- the trains that 01 finds without a table stand where the walk finds one
+  lacking-places : placesLacking c ≡ keep (lacks cs bk) (places cs)
+  lacking-places = gathered case cs placesLacking (lacks cs bk) (λ i. i) lacking-step c hc refl
+
+  first-lacking : (ts : List Train) (C : Case) → noneLacking ts C ≡ atPlace (map (λ (a : Train). a .place) ts) C
+  first-lacking [] C = refl
+  first-lacking (t ∷ ts) C = refl
+
+  pub lacking-agrees : (C : Case) → noneLacking (lacking c k) C ≡ cond (ltb (lackingPlace cs bk) (length cs)) (refuse 11 (spot case (lackingPlace cs bk))) (answer C)
   lacking-agrees C =
-      ap (λ (x : List (List Table)). lacking x (c .trains) C) (of-train cs (tablesOf c k) c hc)
-      ∙ ap (λ (x : List Train). lacking (each (λ i. one (eqb (byte cs i) 4) (tablesOf c k (byte cs (i + 4)))) (places cs)) x C) (trains-decoded case cs c hc)
-      ∙ lacking-places (places cs) C
+      first-lacking (lacking c k) C
+      ∙ ap (λ (x : List ℕ). atPlace x C) lacking-places
       ∙ go (keep (lacks cs bk) (places cs)) refl
     where
       go : (x : List ℕ) → keep (lacks cs bk) (places cs) ≡ x → atPlace x C ≡ cond (ltb (lackingPlace cs bk) (length cs)) (refuse 11 (spot case (lackingPlace cs bk))) (answer C)

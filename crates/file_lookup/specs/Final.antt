@@ -2,14 +2,14 @@
 -- Each way follows from the two readings and from where the walk for a train without a table ends. Assumes nothing.
 use mathlib.Core.Path.{_≡_, refl, ap, sym, _∙_}
 use mathlib.Core.Bool.{Bool, true, false, cond}
-use mathlib.Core.List.{List, map}
+use mathlib.Core.List.{List}
 use Prim.Native.Nat.{ℕ, _≤_, _<_}
 use lib.ListN.{length}
 use lib.Dec.{ltb}
 use borrow.Author.Tests.{lt-ltb, le-ltb}
 use Rattle.rules.specs.Refusals.{Result, then, refuse}
 use Rattle.rules.specs.Refusals.Result.{refused, answer}
-use Rattle.rules.specs.Files.{spot, Contents, Case, Train, read, tablesOf, lacking, caseOf, files}
+use Rattle.rules.specs.Files.{spot, Contents, Case, read, caseOf, lacking, noneLacking, files}
 use Rattle.rules.specs.Files.File.{case, book}
 use Rattle.file_reader.specs.declared.Counts.{Counts}
 use Rattle.file_reader.specs.declared.Reading.{Reading}
@@ -27,7 +27,7 @@ looked {cs} {bk} {t} {b} h = record { bytes = h; first = λ c k hc hk. rw h (tab
 
 -- 11 by train number, of contents that were accepted
 abbrev byTypes : Contents → Contents → Result Case
-byTypes c k = lacking (map (λ (t : Train). tablesOf c k (t .type)) (c .trains)) (c .trains) (caseOf c k)
+byTypes c k = noneLacking (lacking c k) (caseOf c k)
 
 module _ (cs bk : List ℕ) where
   -- the case is refused

@@ -284,13 +284,6 @@ abbrev pub firstPairs : List Table → List Pair
 firstPairs [] = []
 firstPairs (d ∷ l) = d .pairs
 
--- 11 by train number: the place is the train field's offset
-abbrev pub lacking : List (List Table) → List Train → Case → Result Case
-lacking [] ts C = answer C
-lacking (ds ∷ dss) [] C = answer C
-lacking ([] ∷ dss) (t ∷ ts) C = refuse (number noTable) (spot case (t .place))
-lacking ((d ∷ ds) ∷ dss) (t ∷ ts) C = lacking dss ts C
-
 unfoldable pub caseOf : Contents → Contents → Case
 caseOf c k = record {
   head = c .head;
@@ -300,6 +293,15 @@ caseOf c k = record {
   tables = map (λ t. firstPairs (tablesOf c k (t .type))) (c .trains);
 }
 
+-- the trains whose type has no table, by train number
+abbrev pub lacking : Contents → Contents → List Train
+lacking c k = keep (λ t. eqb (length (tablesOf c k (t .type))) 0) (c .trains)
+
+-- the first train that lacks a table is refused 11 at the offset of its field; if none lacks one, the case is answered
+abbrev pub noneLacking : List Train → Case → Result Case
+noneLacking [] C = answer C
+noneLacking (t ∷ ts) C = refuse (number noTable) (spot case (t .place))
+
 -- the case, then the book likewise, then 11
 unfoldable pub files : List ℕ → List ℕ → Result Case
-files cs bk = then (read case cs) (λ c. then (read book bk) (λ k. lacking (map (λ t. tablesOf c k (t .type)) (c .trains)) (c .trains) (caseOf c k)))
+files cs bk = then (read case cs) (λ c. then (read book bk) (λ k. noneLacking (lacking c k) (caseOf c k)))

@@ -1,7 +1,7 @@
 -- A case that is accepted is sound: `accepted-sound`, from the bytes of the two files alone.
 -- What the two files hold is kept through the reading, and each train's table is one of theirs. Assumes nothing.
 use mathlib.Core.Path.{_≡_, refl, sym}
-use mathlib.Core.Bool.{true, false}
+use mathlib.Core.Bool.{Bool, true, false}
 use mathlib.Core.List.{List, [], _∷_, _++_, map}
 use Prim.Native.Nat.{ℕ, _≤_, _<_}
 use native.Mathlib.Nat.{not-suc-le-zero}
@@ -9,9 +9,10 @@ use native.Mathlib.Omega.{arith}
 use lib.ListN.{length, getD, length-map}
 use lib.Dec.{eqb}
 use borrow.Author.Tests.{eqb-false}
+use Rattle.rules.specs.Lists.{one, keep}
 use Rattle.rules.specs.Refusals.{then}
 use Rattle.rules.specs.Refusals.Result.{answer}
-use Rattle.rules.specs.Files.{Train, Table, Contents, File, endRules, read, Case, tablesOf, firstPairs, lacking, caseOf, files, repeats}
+use Rattle.rules.specs.Files.{Train, Table, Contents, File, endRules, read, Case, tablesOf, firstPairs, caseOf, lacking, noneLacking, files, repeats}
 use Rattle.rules.specs.Files.File.{case, book}
 use Rattle.rules.specs.Turns.{Place, headIs, trainAt, ahead, absent}
 use Rattle.theory_lists.specs.Every.{Every, every-append, every-keep, every-image, every-more, every-at, every-anywhere}
@@ -34,16 +35,16 @@ pub record Reads (cs bk : List ℕ) (C : Case) : Type 0 where
   pub found : Every (λ t. 1 ≤ length (tablesOf of-case of-book (t .type))) (of-case .trains)
 
 -- an answer is the case that was given, and no train lacks a table
-lacking-answer : (f : Train → List Table) (ts : List Train) (C D : Case) → lacking (map f ts) ts C ≡ answer D
+lacking-answer : (f : Train → List Table) (ts : List Train) (C D : Case) → noneLacking (keep (λ t. eqb (length (f t)) 0) ts) C ≡ answer D
     → (D ≡ C) × Every (λ t. 1 ≤ length (f t)) ts
 lacking-answer f [] C D h = (sym (answer-answer C D h), tt)
-lacking-answer f (t ∷ ts) C D h = go (f t) h (lacking-answer f ts C D)
+lacking-answer f (t ∷ ts) C D h = go (eqb (length (f t)) 0) refl h (lacking-answer f ts C D)
   where
-    go : (ds : List Table) → lacking (ds ∷ map f ts) (t ∷ ts) C ≡ answer D
-        → (lacking (map f ts) ts C ≡ answer D → (D ≡ C) × Every (λ t. 1 ≤ length (f t)) ts)
-        → (D ≡ C) × ((1 ≤ length ds) × Every (λ t. 1 ≤ length (f t)) ts)
-    go [] h r = absurd (refused-answer _ D h)
-    go (d ∷ ds) h r = (r h .0, (omega arith, r h .1))
+    go : (b : Bool) → eqb (length (f t)) 0 ≡ b → noneLacking (one b t ++ keep (λ t. eqb (length (f t)) 0) ts) C ≡ answer D
+        → (noneLacking (keep (λ t. eqb (length (f t)) 0) ts) C ≡ answer D → (D ≡ C) × Every (λ t. 1 ≤ length (f t)) ts)
+        → (D ≡ C) × ((1 ≤ length (f t)) × Every (λ t. 1 ≤ length (f t)) ts)
+    go true e h r = absurd (refused-answer _ D h)
+    go false e h r = (r h .0, (eqb-zero-false (length (f t)) e, r h .1))
 
 pub accepted-reads : (cs bk : List ℕ) (C : Case) → files cs bk ≡ answer C → Reads cs bk C
 unfolding files
@@ -57,11 +58,11 @@ accepted-reads cs bk C h = record {
 }
   where
     c : (c : Contents) × (read case cs ≡ answer c)
-        × (then (read book bk) (λ k. lacking (map (λ t. tablesOf c k (t .type)) (c .trains)) (c .trains) (caseOf c k)) ≡ answer C)
+        × (then (read book bk) (λ k. noneLacking (lacking c k) (caseOf c k)) ≡ answer C)
     c = then-answer (read case cs) _ C h
 
     k : (k : Contents) × (read book bk ≡ answer k)
-        × (lacking (map (λ t. tablesOf (c .0) k (t .type)) (c .0 .trains)) (c .0 .trains) (caseOf (c .0) k) ≡ answer C)
+        × (noneLacking (lacking (c .0) k) (caseOf (c .0) k) ≡ answer C)
     k = then-answer (read book bk) _ C (c .2)
 
     l : (C ≡ caseOf (c .0) (k .0)) × Every (λ t. 1 ≤ length (tablesOf (c .0) (k .0) (t .type))) (c .0 .trains)

@@ -1,16 +1,16 @@
 -- What a refusal of two files may be: a number from 1 to 11, file 0 or 1, and a place of at most 819.
 -- The place is the offset of a field or of the end, and these are within 819 as far as fields were accepted. Assumes nothing.
 use mathlib.Core.Path.{_≡_, sym, subst}
-use mathlib.Core.List.{List, [], _∷_, map}
+use mathlib.Core.List.{List, [], _∷_}
 use Prim.Native.Nat.{ℕ, zero, suc, _≤_}
 use native.Mathlib.Omega.{arith}
 use lib.ListN.{length}
 use lib.Dec.{eqb}
 use Rattle.rules.specs.Refusals.{number, Rule, verdict, Refusal}
 use Rattle.rules.specs.Refusals.Result.{refused}
-use Rattle.rules.specs.Files.{Train, Table, File, fileNumber, spot, Contents, byte, headOf, trackOf, trainOf, tableOf, headRules, stationRules, trackRules, trainRules, tableRules, bodyRules, body, fieldRules, endRules, readField, readFields, empty, read, Case, tablesOf, lacking, caseOf, files}
+use Rattle.rules.specs.Files.{Train, File, fileNumber, spot, Contents, byte, headOf, trackOf, trainOf, tableOf, headRules, stationRules, trackRules, trainRules, tableRules, bodyRules, body, fieldRules, endRules, readField, readFields, empty, read, Case, tablesOf, caseOf, lacking, noneLacking, files}
 use Rattle.rules.specs.Files.File.{case, book}
-use Rattle.theory_lists.specs.Every.{Every, every-cond}
+use Rattle.theory_lists.specs.Every.{Every, every-cond, every-keep}
 use Rattle.theory_sound.specs.Verdicts.{refused-answer, refused-refused, unless-refused, onward-refused, then-refused, verdict-few, field-accepted, past, rest, withField}
 use Rattle.theory_sound.specs.Reading.{read-keeps}
 use Rattle.theory_sound.specs.Bounds.{Within, within-empty, within-bytes, within-more}
@@ -79,21 +79,18 @@ more-told r t = record {
   in-reach = t .in-reach;
 }
 
-lacking-told : (f : Train → List Table) (ts : List Train) (C : Case) (r : Refusal) → Every (λ t. t .place ≤ 819) ts → lacking (map f ts) ts C ≡ refused r → Told 11 r
-lacking-told f [] C r p h = absurd (refused-answer r C (sym h))
-lacking-told f (t ∷ ts) C r p h = go (f t) h (lacking-told f ts C r (p .1))
-  where
-    go : (ds : List Table) → lacking (ds ∷ map f ts) (t ∷ ts) C ≡ refused r → (lacking (map f ts) ts C ≡ refused r → Told 11 r) → Told 11 r
-    go [] h i =
-        subst (Told 11) (refused-refused _ r h)
-        (record { some-number = omega arith; few-numbers = omega arith; two-files = omega arith; in-reach = p .0 })
-    go (d ∷ ds) h i = i h
+lacking-told : (ts : List Train) (C : Case) (r : Refusal) → Every (λ t. t .place ≤ 819) ts → noneLacking ts C ≡ refused r → Told 11 r
+lacking-told [] C r p h = absurd (refused-answer r C (sym h))
+lacking-told (t ∷ ts) C r p h =
+    subst (Told 11) (refused-refused _ r h)
+    (record { some-number = omega arith; few-numbers = omega arith; two-files = omega arith; in-reach = p .0 })
 
 pub files-told : (cs bk : List ℕ) (r : Refusal) → files cs bk ≡ refused r → Told 11 r
 unfolding files
 files-told cs bk r h =
     then-refused (Told 11 r) (read case cs) _ r h
     (λ c e i. then-refused (Told 11 r) (read book bk) _ r i
-    (λ k q j. lacking-told (λ t. tablesOf c k (t .type)) (c .trains) (caseOf c k) r (read-keeps case Within (within-more case) cs c within-empty e .0 .places) j)
+    (λ k q j. lacking-told (lacking c k) (caseOf c k) r
+    (every-keep (λ t. t .place ≤ 819) (λ t. eqb (length (tablesOf c k (t .type))) 0) (c .trains) (read-keeps case Within (within-more case) cs c within-empty e .0 .places)) j)
     (λ q. more-told r (read-told book bk r q)))
     (λ e. more-told r (read-told case cs r e))
