@@ -262,7 +262,8 @@ empty = record {
   tables = [];
 }
 
--- a field has at least three bytes, so the end is met before as many turns as there are bytes, and one, are over
+-- a field has at least three bytes, so the end is met before as many turns as there are bytes, and one, are over; more turns change
+-- nothing (`turns-suffice`, crate `theory_sound`)
 unfoldable pub read : File → List ℕ → Result Contents
 read f l = readFields (suc (length l)) f 0 l empty
 

@@ -1,4 +1,5 @@
--- The words for lists that the definitions use. Assumes nothing: these are definitions.
+-- The words for lists that the definitions use. Of numbers, `a - b` is 0 where b is above a, `a / b` is rounded down, and `a % b` is what is
+-- left over. Assumes nothing: these are definitions.
 use mathlib.Core.Bool.{Bool, true, false, _||_}
 use mathlib.Core.List.{List, [], _∷_, _++_}
 use Prim.Native.Nat.{ℕ, zero, suc, _+_}

@@ -128,6 +128,7 @@ readFields-turns (suc n) (suc m) f at (b ∷ l) c h k =
     go zero e r = r (omega (arith, length-rest (b ∷ l), h)) (omega (arith, length-rest (b ∷ l), k))
     go (suc v) e r = refl
 
-pub read-turns : (n : ℕ) (f : File) (l : List ℕ) → length l < n → readFields n f 0 l empty ≡ read f l
+-- a reading with more turns than the file has bytes is the reading
+pub turns-suffice : (n : ℕ) (f : File) (l : List ℕ) → length l < n → readFields n f 0 l empty ≡ read f l
 unfolding read
-read-turns n f l h = readFields-turns n (suc (length l)) f 0 l empty h (omega arith)
+turns-suffice n f l h = readFields-turns n (suc (length l)) f 0 l empty h (omega arith)

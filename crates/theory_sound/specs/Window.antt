@@ -17,7 +17,7 @@ use Rattle.rules.specs.Files.{File, spot, Contents, byte, known, inPlace, lengt
 use Rattle.rules.specs.Files.File.{case, book}
 use Rattle.theory_lists.specs.Every.{Every, every-cond, has-every}
 use Rattle.theory_sound.specs.Verdicts.{Field, field-accepted, past, rest, withField}
-use Rattle.theory_sound.specs.Bounds.{Within, within-empty, within-bytes, within-more, read-turns}
+use Rattle.theory_sound.specs.Bounds.{Within, within-empty, within-bytes, within-more, turns-suffice}
 
 -- ---- a list and its beginning
 
@@ -157,7 +157,7 @@ readFields-window (suc n) at (suc w) f (b ∷ l) c p h =
 pub read-window : (w : ℕ) (f : File) (l : List ℕ) → 864 ≤ w → read f (take w l) ≡ read f l
 unfolding read
 read-window w f l h =
-    sym (read-turns (suc (length l)) f (take w l) (omega (arith, length-take w l)))
+    sym (turns-suffice (suc (length l)) f (take w l) (omega (arith, length-take w l)))
     ∙ readFields-window (suc (length l)) 0 w f l empty within-empty (omega arith)
 
 -- the handed part of the two files decides
