@@ -11,8 +11,9 @@ use lib.Dec.{leb, ltb}
 use borrow.Author.Tests.{leb-true, lt-ltb, le-ltb, le-leb, lt-leb}
 use Rattle.rules.specs.Refusals.{Result, then, judged}
 use Rattle.rules.specs.Files.{File, spot, Contents, byte, word, size, body, fieldRules, more, readField}
-use Rattle.file_fields.specs.declared.Field.the-variants.{Whole, Ended, Overrun}
-use Rattle.file_fields.specs.Fields.{past, whole, bodyAt, fieldAt}
+use Rattle.rules.specs.Viewer.{viewed}
+use Rattle.rules.specs.Viewer.View.{field, ended, overruns}
+use Rattle.file_fields.specs.Fields.{past, whole, bodyAt}
 
 -- ---- bytes of a part
 
@@ -88,21 +89,21 @@ module _ (l : List ℕ) (i : ℕ) where
 
   -- ---- what stands there
 
-  pub field-ended : length l ≤ i → fieldAt l i ≡ Ended
-  unfolding fieldAt
-  field-ended h = simp (le-leb _ _ h)
+  pub viewed-ended : length l ≤ i → viewed l i ≡ ended
+  unfolding viewed
+  viewed-ended h = simp (le-leb _ _ h)
 
-  pub field-overrun : i < length l → length l < past l i → fieldAt l i ≡ Overrun
-  unfolding fieldAt
-  field-overrun h o = rw (lt-leb _ _ h, lt-ltb _ _ o) (go (ltb (length l) (i + 3)))
+  pub viewed-overrun : i < length l → length l < past l i → viewed l i ≡ overruns
+  unfolding viewed
+  viewed-overrun h o = rw (lt-leb _ _ h, lt-ltb _ _ o) (go (ltb (length l) (i + 3)))
     where
-      go : (b : Bool) → cond b Overrun Overrun ≡ Overrun
+      go : (b : Bool) → cond b overruns overruns ≡ overruns
       go true = refl
       go false = refl
 
-  pub field-whole : past l i ≤ length l → fieldAt l i ≡ Whole (byte l i) (word l (i + 1)) (past l i)
-  unfolding fieldAt
-  field-whole h =
+  pub viewed-field : past l i ≤ length l → viewed l i ≡ field (byte l i) (word l (i + 1)) (past l i)
+  unfolding viewed
+  viewed-field h =
       let a : i < length l = omega arith in
       let b : i + 3 ≤ length l = omega arith in
       simp (lt-leb _ _ a, le-ltb _ _ b, le-ltb _ _ h)

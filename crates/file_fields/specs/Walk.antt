@@ -10,8 +10,10 @@ use lib.ListN.{length}
 use lib.Dec.{leb, ltb}
 use borrow.Author.Tests.{le-leb, lt-leb, leb-true, ltb-true, ltb-false}
 use Rattle.rules.specs.Files.{byte, word}
-use Rattle.file_fields.specs.declared.Field.the-variants.{Whole, Ended, Overrun}
-use Rattle.file_fields.specs.Fields.{past, whole, fieldAt}
+use Rattle.rules.specs.Viewer.{viewed}
+use Rattle.rules.specs.Viewer.View.{field, ended, overruns}
+use Rattle.file_fields.specs.declared.Field.the-variants.{Whole}
+use Rattle.file_fields.specs.Fields.{past, whole, fieldOf, fieldAt}
 
 -- a whole field, with its tag and its end
 pub record Here (l : List ℕ) (i tag end : ℕ) : Type 0 where
@@ -22,11 +24,11 @@ pub record Here (l : List ℕ) (i tag end : ℕ) : Type 0 where
   pub further : i + 3 ≤ end
 
 pub field-here : (l : List ℕ) (i tag n end : ℕ) → fieldAt l i ≡ Whole tag n end → Here l i tag end
-unfolding fieldAt whole
+unfolding viewed whole
 field-here l i tag n end h = go (leb (length l) i) (ltb (length l) (i + 3)) (ltb (length l) (past l i)) refl refl h
   where
     go : (a b c : Bool) → ltb (length l) (i + 3) ≡ b → ltb (length l) (past l i) ≡ c
-        → cond a Ended (cond b Overrun (cond c Overrun (Whole (byte l i) (word l (i + 1)) (past l i)))) ≡ Whole tag n end → Here l i tag end
+        → fieldOf (cond a ended (cond b overruns (cond c overruns (field (byte l i) (word l (i + 1)) (past l i))))) ≡ Whole tag n end → Here l i tag end
     go true b c p q h = let z : _≡_ {A = ℕ} 0 1 = cc in absurd (omega arith)
     go false true c p q h = let z : _≡_ {A = ℕ} 0 1 = cc in absurd (omega arith)
     go false false true p q h = let z : _≡_ {A = ℕ} 0 1 = cc in absurd (omega arith)
@@ -38,11 +40,11 @@ field-here l i tag n end h = go (leb (length l) i) (ltb (length l) (i + 3)) (ltb
 
 -- no whole field
 pub field-gone : (l : List ℕ) (i : ℕ) → ((tag n end : ℕ) → fieldAt l i ≡ Whole tag n end → ⊥) → whole l i ≡ false
-unfolding fieldAt whole
+unfolding viewed whole
 field-gone l i h = go (leb (length l) i) (ltb (length l) (i + 3)) (ltb (length l) (past l i)) refl refl refl h
   where
     go : (a b c : Bool) → leb (length l) i ≡ a → ltb (length l) (i + 3) ≡ b → ltb (length l) (past l i) ≡ c
-        → ((tag n end : ℕ) → cond a Ended (cond b Overrun (cond c Overrun (Whole (byte l i) (word l (i + 1)) (past l i)))) ≡ Whole tag n end → ⊥) → cond b false (leb (past l i) (length l)) ≡ false
+        → ((tag n end : ℕ) → fieldOf (cond a ended (cond b overruns (cond c overruns (field (byte l i) (word l (i + 1)) (past l i))))) ≡ Whole tag n end → ⊥) → cond b false (leb (past l i) (length l)) ≡ false
     go a true c o p q h = refl
     go true false c o p q h = let x = leb-true (length l) i o in let y = ltb-false (length l) (i + 3) p in absurd (omega arith)
     go false false true o p q h = lt-leb (past l i) (length l) (ltb-true (length l) (past l i) q)

@@ -6,7 +6,8 @@ ghost use mathlib.Core.Path.{_≡_};
 ghost use Prim.Native.Nat.{_+_, _*_, _<_};
 ghost use lib.ListN.{getD};
 ghost use Rattle.rules.specs.Files.{word};
-ghost use Rattle.file_fields.specs.Fields.{fieldAt};
+ghost use Rattle.rules.specs.Viewer.{viewed};
+ghost use Rattle.file_fields.specs.Fields.{fieldOf};
 
 // What stands at a place of a file: a whole field with its tag, its body's length and where it ends; the file's end; or refusal 1.
 pub enum Field {
@@ -43,7 +44,7 @@ pub fn word(b: &[u8], i: usize) -> usize
 
 // The field at a place; it judges no tag and no length.
 pub fn field_at(file: &[u8], at: usize) -> Field
-    ensures { λ r. ⌜ r ≡ fieldAt (now (file .entry)) at ⌝ }
+    ensures { λ r. ⌜ r ≡ fieldOf (viewed (now (file .entry)) at) ⌝ }
 {
     if file.len() <= at {
         return Field::Ended;

@@ -17,11 +17,11 @@ use Rattle.rules.specs.Files.{File, fileNumber, spot, Contents, byte, word, siz
 use Rattle.rules.specs.Files.File.{case, book}
 use Rattle.theory_sound.specs.Verdicts.{refused-answer, answer-answer, unless-answer, onward-answer, unless-refused, onward-refused, field-accepted}
 use Rattle.theory_sound.specs.Verdicts.{Field as Accepted}
-use Rattle.file_fields.specs.declared.Field.{Field}
-use Rattle.file_fields.specs.declared.Field.the-variants.{Whole, Ended, Overrun}
-use Rattle.file_fields.specs.Fields.{past, whole, fieldAt, numberOf}
-use Rattle.file_fields.specs.At.{size-here, bodyHere, read-here, whole-of, field-ended, field-overrun, field-whole}
-use Rattle.file_viewer.specs.Viewing.{placeAfter, placeFrom, withGiven, heldFrom}
+use Rattle.rules.specs.Viewer.{View, refusalOf, viewed, nextPlace, placeFrom}
+use Rattle.rules.specs.Viewer.View.{field, ended, overruns}
+use Rattle.file_fields.specs.Fields.{past, whole}
+use Rattle.file_fields.specs.At.{size-here, bodyHere, read-here, whole-of, viewed-ended, viewed-overrun, viewed-field}
+use Rattle.file_viewer.specs.Viewing.{withGiven, heldFrom}
 
 -- ---- the statements
 
@@ -33,7 +33,7 @@ Gives l i n = (k : ℕ) → k < n → whole l (placeFrom k l i) ≡ true
 pub record ToTheEnd (l : List ℕ) (i : ℕ) (c d : Contents) : Type 0 where
   pub many : ℕ
   pub fields : Gives l i many
-  pub ended : fieldAt l (placeFrom many l i) ≡ Ended
+  pub to-end : viewed l (placeFrom many l i) ≡ ended
   pub holds : heldFrom many l i c ≡ d
 
 -- a viewer at i gives some fields and stands then at the refusal's place; if it is refusal 1, that is what the viewer gives there
@@ -41,19 +41,19 @@ pub record Stopped (l : List ℕ) (i : ℕ) (r : Refusal) : Type 0 where
   pub many : ℕ
   pub fields : Gives l i many
   pub place : placeFrom many l i ≡ r .place
-  pub one : r .number ≡ number overrun → numberOf (fieldAt l (r .place)) ≡ r .number
+  pub one : r .number ≡ number overrun → refusalOf (viewed l (r .place)) ≡ r .number
 
 -- ---- the field at a place
 
 -- a viewer at i gives a field
 abbrev WholeHere : List ℕ → ℕ → Type 0
-WholeHere l i = (fieldAt l i ≡ Whole (byte l i) (word l (i + 1)) (past l i)) × (whole l i ≡ true)
+WholeHere l i = (viewed l i ≡ field (byte l i) (word l (i + 1)) (past l i)) × (whole l i ≡ true)
 
 -- a field that breaks no rule is whole
 whole-here : (l : List ℕ) (i : ℕ) (f : File) (c : Contents) → Accepted f c i (drop i l) → i < length l → WholeHere l i
 whole-here l i f c a h =
     let y : past l i ≤ length l = omega (arith, length-drop i l, size-here l i, a .whole) in
-    (field-whole l i y, whole-of l i y)
+    (viewed-field l i y, whole-of l i y)
 
 -- ---- which rules give refusal 1
 
@@ -109,7 +109,7 @@ one-overruns f c at m h = go (ltb (length m) 3) (not (known (byte m 0))) (not (i
 gives-onward : (l : List ℕ) (i n : ℕ) → WholeHere l i → Gives l (past l i) n → Gives l i (suc n)
 unfolding placeFrom
 gives-onward l i n w g zero b = w .1
-gives-onward l i n w g (suc k) b = ap (λ (a : Field). whole l (placeFrom k l (placeAfter i a))) (w .0) ∙ g k (omega arith)
+gives-onward l i n w g (suc k) b = ap (λ (a : View). whole l (placeFrom k l (nextPlace i a))) (w .0) ∙ g k (omega arith)
 
 -- ---- the reading, field by field
 
@@ -119,14 +119,14 @@ module _ (f : File) (l : List ℕ) (d : Contents) where
   onward-to-the-end i c w t = record {
     many = suc (t .many);
     fields = gives-onward l i (t .many) w (t .fields);
-    ended = ap (λ (a : Field). fieldAt l (placeFrom (t .many) l (placeAfter i a))) (w .0) ∙ t .ended;
-    holds = ap (λ (a : Field). heldFrom (t .many) l (placeAfter i a) (withGiven l i c a)) (w .0) ∙ t .holds;
+    to-end = ap (λ (a : View). viewed l (placeFrom (t .many) l (nextPlace i a))) (w .0) ∙ t .to-end;
+    holds = ap (λ (a : View). heldFrom (t .many) l (nextPlace i a) (withGiven l i c a)) (w .0) ∙ t .holds;
   }
 
   to-the-end : (n i : ℕ) (c : Contents) → length l < i + n → readFields n f i (drop i l) c ≡ answer d → ToTheEnd l i c d
   unfolding readFields readField placeFrom heldFrom
   to-the-end zero i c h r =
-      record { many = 0; fields = λ k b. absurd (omega arith); ended = field-ended l i (omega arith); holds = answer-answer c d r }
+      record { many = 0; fields = λ k b. absurd (omega arith); to-end = viewed-ended l i (omega arith); holds = answer-answer c d r }
   to-the-end (suc n) i c h r = go (leb (length l) i) refl (to-the-end n)
     where
       go : (b : Bool) → leb (length l) i ≡ b
@@ -134,7 +134,7 @@ module _ (f : File) (l : List ℕ) (d : Contents) where
       go true e ih =
           let o = leb-true (length l) i e in
           let u = unless-answer (verdict (endRules f c)) (spot f i) c d (rw (drop-of-length-le l o) at r) in
-          record { many = 0; fields = λ k b. absurd (omega arith); ended = field-ended l i o; holds = u .1 }
+          record { many = 0; fields = λ k b. absurd (omega arith); to-end = viewed-ended l i o; holds = u .1 }
       go false e ih =
           let o = leb-false (length l) i e in
           let u = onward-answer (verdict (fieldRules f c i (drop i l))) (spot f i) _ _ d (sym (read-here l i (readFields n f) f c o) ∙ r) in
@@ -146,16 +146,16 @@ module _ (f : File) (l : List ℕ) (r : Refusal) where
   onward-stopped i w t = record {
     many = suc (t .many);
     fields = gives-onward l i (t .many) w (t .fields);
-    place = ap (λ (a : Field). placeFrom (t .many) l (placeAfter i a)) (w .0) ∙ t .place;
+    place = ap (λ (a : View). placeFrom (t .many) l (nextPlace i a)) (w .0) ∙ t .place;
     one = t .one;
   }
 
-  stopped-here : (i n : ℕ) → _≡_ {A = Refusal} (record { number = n; file = fileNumber f; place = i }) r → (n ≡ 1 → fieldAt l i ≡ Overrun) → Stopped l i r
+  stopped-here : (i n : ℕ) → _≡_ {A = Refusal} (record { number = n; file = fileNumber f; place = i }) r → (n ≡ 1 → viewed l i ≡ overruns) → Stopped l i r
   unfolding placeFrom
   stopped-here i n e o =
       let p : i ≡ r .place = ap (λ (q : Refusal). q .place) e in
       let m : n ≡ r .number = ap (λ (q : Refusal). q .number) e in
-      record { many = 0; fields = λ k b. absurd (omega arith); place = p; one = λ z. ap (λ (j : ℕ). numberOf (fieldAt l j)) (sym p) ∙ ap numberOf (o (m ∙ z)) ∙ sym z }
+      record { many = 0; fields = λ k b. absurd (omega arith); place = p; one = λ z. ap (λ (j : ℕ). refusalOf (viewed l j)) (sym p) ∙ ap refusalOf (o (m ∙ z)) ∙ sym z }
 
   stopped : (n i : ℕ) (c : Contents) → readFields n f i (drop i l) c ≡ refused r → Stopped l i r
   unfolding readFields readField
@@ -174,7 +174,7 @@ module _ (f : File) (l : List ℕ) (r : Refusal) where
           let m = one-overruns f c i (drop i l) z in
           let p = length-drop i l in
           let s = size-here l i in
-          field-overrun l i o (omega arith)))
+          viewed-overrun l i o (omega arith)))
 
 -- what an accepted file holds are the fields that a viewer gives, one after another, and then the file has ended
 pub read-viewed : (f : File) (l : List ℕ) (c : Contents) → read f l ≡ answer c → ToTheEnd l 0 empty c

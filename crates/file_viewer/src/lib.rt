@@ -2,7 +2,8 @@
 // tag and no length. The functions over the struct are thin; `give_at` and `nth` take plain parameters and serve every other caller.
 use file_fields::Field;
 ghost use mathlib.Core.Path.{_≡_};
-ghost use Rattle.file_fields.specs.Fields.{fieldAt};
+ghost use Rattle.rules.specs.Viewer.{viewed, nextPlace};
+ghost use Rattle.file_fields.specs.Fields.{fieldOf};
 ghost use Rattle.file_viewer.specs.Viewing.{placeAfter, givenAt, viewing};
 
 pub struct Viewer<'a> {
@@ -46,9 +47,9 @@ pub fn at<'a>(bytes: &'a [u8], place: usize) -> Viewer<'a>
 
 // Gives what stands at the viewer's place, and goes past it if it is a field.
 pub fn give<'s, 'a>(v: &'s mut Viewer<'a>) -> Field
-    ensures { λ f. ⌜ (f ≡ fieldAt (now (now (v .entry) .bytes)) (now (v .entry) .place))
+    ensures { λ f. ⌜ (f ≡ fieldOf (viewed (now (now (v .entry) .bytes)) (now (v .entry) .place)))
         × (now (v .exit) .bytes ≡ now (v .entry) .bytes)
-        × (now (v .exit) .place ≡ placeAfter (now (v .entry) .place) (fieldAt (now (now (v .entry) .bytes)) (now (v .entry) .place))) ⌝ }
+        × (now (v .exit) .place ≡ nextPlace (now (v .entry) .place) (viewed (now (now (v .entry) .bytes)) (now (v .entry) .place))) ⌝ }
 {
     let f = file_fields::field_at(v.bytes, v.place);
     let next = place_after(v.place, f);

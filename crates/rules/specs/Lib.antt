@@ -1,6 +1,7 @@
 pub mod Lists
 pub mod Refusals
 pub mod Files
+pub mod Viewer
 pub mod Turns
 pub mod Single
 pub mod Joint

@@ -1,8 +1,7 @@
 -- `file_fields::field_at` meets its contract: each return is one case of the definition. Assumes nothing.
 use borrow.Author.Needs.{needs}
 use mathlib.Core.Path.{sym}
-use Rattle.file_fields.specs.At.{field-ended}
-use Rattle.file_fields.proofs.Laws.{field-short, field-cut, field-whole}
+use Rattle.file_fields.proofs.Laws.{field-ended, field-short, field-cut, field-whole}
 use Rattle.file_fields.proofs.field_at.Statement.{statement}
 use Rattle.file_fields.proofs.field_at.Tie as tie
 

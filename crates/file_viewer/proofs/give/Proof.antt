@@ -46,8 +46,10 @@ use denote.Triple.Spec.{Meets, tripleOf}
 use denote.Triple.Table.{entered, cited}
 use denote.Triple.Walked.{says, Stays, stay-ref, walkOf, goes-ref, Walks, ends-at, walked, walk-meets}
 use denote.Triple.Clauses.{ensured, lasts}
+use Rattle.rules.specs.Viewer.{viewed}
 use Rattle.file_fields.specs.Fields.{fieldAt}
 use Rattle.file_viewer.specs.Viewing.{placeAfter}
+use Rattle.file_viewer.specs.Laws.{after-next}
 use Rattle.file_viewer.specs.declared.Viewer.{Viewer}
 use Rattle.file_fields.specs.declared.Field.{Field}
 use Rattle.file_viewer.proofs.Viewer as T
@@ -175,7 +177,7 @@ module _ {M : Type 1} (𝓤 : URA M) (H : Heap 𝓤) (A : Atoms 𝓤) (W : Given
   exits : (r : ℕ) (f : Field) (u : Val) → r ≡ placeAfter (h .place) f → f ≡ found → ent 𝓤 (⋆ 𝓤 H A (‵ (fobs γ (B κ′ .coded .code (h′ r))) ∷ ‵ (fbor κ (Body (mem (B κ′)) b o γ)) ∷ ‵ (flft κ q) ∷ ‵ (S.the-row .own f (u ∷ [])) ∷ (‵ (flft κ′ q′) ⊛ ‵ ftrue) ∷ [])) (Post u)
   exits r f u e e′ =
       qed W (‵ (fobs γ (B κ′ .coded .code (h′ r))) ∷ ‵ (fbor κ (Body (mem (B κ′)) b o γ)) ∷ ‵ (flft κ q) ∷ ‵ (S.the-row .own f (u ∷ [])) ∷ (‵ (flft κ′ q′) ⊛ ‵ ftrue) ∷ []) ∵
-      suffices ! _ (ends-at 𝓤 H A give.ended stayed (give.clauses 𝓤 H A heap run) W (((κ, (κ′, tt)), (q, (q′, tt)), bounds, x, args), tt) u f (h′ r, tt) (tt, tt)) $ says ! (e′, refl, e ∙ ap (placeAfter (h .place)) e′) $
+      suffices ! _ (ends-at 𝓤 H A give.ended stayed (give.clauses 𝓤 H A heap run) W (((κ, (κ′, tt)), (q, (q′, tt)), bounds, x, args), tt) u f (h′ r, tt) (tt, tt)) $ says ! (e′, refl, e ∙ ap (placeAfter (h .place)) e′ ∙ after-next (h .place) (viewed (now (h .bytes)) (h .place))) $
       move ! (2 ∷ 4 ∷ []) $ join ! $ frame ! $
       feqI ! (List Val) (vptr b o ∷ []) (vptr b o ∷ []) refl $ fjoin3 ! $ nothing ! $ move ! (1 ∷ 0 ∷ []) $ fjoin ! $ frame ! $ done !
 

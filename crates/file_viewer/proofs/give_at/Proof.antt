@@ -47,8 +47,9 @@ use denote.Triple.Table.{entered, cited}
 use denote.Triple.Walked.{says, Stays, stay-none, stay-none-slice, walkOf, goes-none, goes-none-slice, Walks, ends-at, walked, walk-meets}
 use denote.Exit.{yes}
 use denote.Triple.Clauses.{ensured, lasts}
+use Rattle.rules.specs.Viewer.{viewed, nextPlace}
 use Rattle.file_fields.specs.Fields.{fieldAt}
-use Rattle.file_viewer.specs.Viewing.{placeAfter, givenAt}
+use Rattle.file_viewer.specs.Viewing.{givenAt}
 use Rattle.file_viewer.specs.declared.Viewer.{Viewer}
 use Rattle.file_viewer.specs.declared.Given as declared
 use Rattle.file_fields.specs.declared.Field.{Field}
@@ -182,7 +183,7 @@ module _ {M : Type 1} (𝓤 : URA M) (H : Heap 𝓤) (A : Atoms 𝓤) (W : Given
 
   -- what is known of what it gave, and of the viewer h that it has left
   abbrev Said : Viewer → Field → Viewer → Type 0
-  Said r f h = (f ≡ fieldAt (now (r .bytes)) (r .place)) × (h .bytes ≡ r .bytes) × (h .place ≡ placeAfter (r .place) (fieldAt (now (r .bytes)) (r .place)))
+  Said r f h = (f ≡ fieldAt (now (r .bytes)) (r .place)) × (h .bytes ≡ r .bytes) × (h .place ≡ nextPlace (r .place) (viewed (now (r .bytes)) (r .place)))
 
   -- ---- the exit
 

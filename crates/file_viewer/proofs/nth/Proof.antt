@@ -3,7 +3,7 @@ use borrow.Author.Needs.{needs}
 use native.Mathlib.Omega.{arith}
 use mathlib.Core.Path.{_≡_, refl, ap, sym, _∙_}
 use Rattle.file_viewer.specs.declared.Given.{Given}
-use Rattle.file_viewer.specs.Viewing.{placeFrom, placeOf}
+use Rattle.rules.specs.Viewer.{placeFrom, placeOf}
 use Rattle.file_viewer.specs.Laws.{viewing-here, place-come, place-onward}
 use Rattle.file_viewer.proofs.nth.Statement.{statement}
 use Rattle.file_viewer.proofs.nth.Tie as tie
