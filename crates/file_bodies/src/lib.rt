@@ -53,7 +53,7 @@ fn ends_at(earlier: &[u8], i: usize, f: usize, t: usize) -> bool
 }
 
 // Whether one of n tracks, in fields of six bytes from base on, has the ends f and t.
-pub fn has_track(earlier: &[u8], base: usize, n: usize, f: usize, t: usize) -> bool
+fn has_track(earlier: &[u8], base: usize, n: usize, f: usize, t: usize) -> bool
     requires { ⌜ (base ≤ 4096) × (n ≤ 40) ⌝ }
     ensures { λ r. ⌜ r ≡ joined (now (earlier .entry)) base n f t ⌝ }
 {

@@ -36,7 +36,7 @@ fn is_table(file: &[u8], t: usize, i: usize) -> bool
 }
 
 // The offset of the table of type t, and the file's length where there is none.
-pub fn table_at(file: &[u8], t: usize) -> usize
+fn table_at(file: &[u8], t: usize) -> usize
     ensures { λ r. ⌜ r ≡ tablePlace (now (file .entry)) t ⌝ }
 {
     let mut i = 0;
@@ -109,7 +109,7 @@ fn lacks_table(case: &[u8], book: &[u8], i: usize) -> bool
 }
 
 // The offset of the first train whose type has no table, and the case's length where there is none.
-pub fn lacking_at(case: &[u8], book: &[u8]) -> usize
+fn lacking_at(case: &[u8], book: &[u8]) -> usize
     ensures { λ r. ⌜ r ≡ lackingPlace (now (case .entry)) (now (book .entry)) ⌝ }
 {
     let mut i = 0;
@@ -154,7 +154,7 @@ fn still_left(tag: usize, left: usize) -> usize
 }
 
 // The offset of train k's field, and the case's length where there is none.
-pub fn train_at(case: &[u8], k: usize) -> usize
+fn train_at(case: &[u8], k: usize) -> usize
     ensures { λ r. ⌜ r ≡ trainPlace (now (case .entry)) k ⌝ }
 {
     let mut left = k;

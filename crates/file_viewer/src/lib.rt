@@ -1,5 +1,5 @@
 // The field viewer of the planning desk: it holds a file's bytes and its place and gives one field after another. It judges no
-// tag and no length. The functions over the struct are thin; `give_at` and `nth` take plain parameters and serve every other caller.
+// tag and no length. The functions over the struct are thin; `nth` takes plain parameters and serves every other caller.
 use file_fields::Field;
 ghost use mathlib.Core.Path.{_≡_};
 ghost use Rattle.rules.specs.Viewer.{viewed, nextPlace};
@@ -58,7 +58,7 @@ pub fn give<'s, 'a>(v: &'s mut Viewer<'a>) -> Field
 }
 
 // What a viewer of the file at a place gives, and where it stands then.
-pub fn give_at(file: &[u8], place: usize) -> Given
+fn give_at(file: &[u8], place: usize) -> Given
     ensures { λ r. ⌜ r ≡ givenAt (now (file .entry)) place ⌝ }
 {
     let mut v = at(file, place);
