@@ -19,15 +19,17 @@ use Rattle.rules.specs.Figures.{Figures, figures}
 
 -- ---- the answers: the files and 11, then the call's arguments, then 12 and 13 as the run meets them; 12 to 17 have file 0 and place 0
 
--- the case of the two files, if it and then the call's arguments are accepted
+-- the case of the two files, judged first; then the call's arguments are judged, by the rules 15, 16 and 17 that the call has
 abbrev pub caseFor : List ℕ → List ℕ → (Case → List Rule) → Result Case
 caseFor cs bk arguments = then (files cs bk) (λ C. judged (arguments C) nowhere C)
 
+-- a wrong count, or an index past the table of its train
 unfoldable pub choiceBroken : Case → List ℕ → Bool
 choiceBroken C x =
     not (eqb (length x) (length (C .trains)))
     || any (λ k. leb (length (getD (C .tables) k [])) (getD x k 0)) (below (length (C .trains)))
 
+-- trains are numbered from 0
 unfoldable pub noSuchTrain : Case → ℕ → Bool
 noSuchTrain C k = leb (length (C .trains)) k
 
@@ -45,12 +47,15 @@ pub record Run : Type 0 where
 abbrev pub runTo : ℕ → Case → Result Run
 runTo m C = answerUnless (joint C m .met) nowhere (record { of = C; state = joint C m })
 
+-- the run that stops after minute m
 unfoldable pub stoppedRun : List ℕ → List ℕ → ℕ → Result Run
 stoppedRun cs bk m = then (caseFor cs bk (λ C. stopTooLate when ltb (C .head .lastMinute) m ∷ [])) (runTo m)
 
+-- the run over the whole window
 unfoldable pub wholeRun : List ℕ → List ℕ → Result Run
 wholeRun cs bk = then (files cs bk) (λ C. runTo (C .head .lastMinute) C)
 
+-- the run over the whole window, of a call that names train k
 unfoldable pub trainRun : List ℕ → List ℕ → ℕ → Result Run
 trainRun cs bk k = then (caseFor cs bk (λ C. noTrain when noSuchTrain C k ∷ [])) (λ C. runTo (C .head .lastMinute) C)
 

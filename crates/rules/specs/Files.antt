@@ -247,7 +247,7 @@ readField go f at (b ∷ l) c =
     then (judged (fieldRules f c at (b ∷ l)) (spot f at) (more c at b (body (b ∷ l))))
     (go (at + (3 + size (b ∷ l))) (drop (3 + size (b ∷ l)) (b ∷ l)))
 
--- fields are read one after another; the first that isn't sound ends the reading
+-- fields are read one after another, in at most n turns; the first that isn't sound ends the reading
 unfoldable pub readFields : ℕ → File → ℕ → List ℕ → Contents → Result Contents
 readFields zero f at l c = answer c
 readFields (suc n) f at l c = readField (readFields n f) f at l c

@@ -61,6 +61,7 @@ pub record Spot : Type 0 where
   pub file : ℕ
   pub place : ℕ
 
+-- of a refusal that is about no field
 abbrev pub nowhere : Spot
 nowhere = record { file = 0; place = 0 }
 
