@@ -47,7 +47,7 @@ pub fn before(tables: &[u64], k: u64, e: u64) -> u64
 }
 
 // Whether s is a state of the train, place and kind of `key` whose minute is at most t; `key` is their state of minute 0.
-pub fn reached(s: u64, key: u64, t: u64) -> bool
+fn reached(s: u64, key: u64, t: u64) -> bool
     requires { ⌜ (key < 4294967296) × (t < 2048) ⌝ }
     ensures { λ r. ⌜ r ≡ reachOf key t s ⌝ }
 {
@@ -58,7 +58,7 @@ pub fn reached(s: u64, key: u64, t: u64) -> bool
 }
 
 // Whether s is a state of train k that is due at t and whose next element is e.
-pub fn asks(tables: &[u64], s: u64, t: u64, e: u64, k: u64) -> bool
+fn asks(tables: &[u64], s: u64, t: u64, e: u64, k: u64) -> bool
     ensures { λ r. ⌜ r ≡ asksOf (now (tables .entry)) t e k s ⌝ }
 {
     if s / 524288 != k {
@@ -102,7 +102,7 @@ pub fn first_reached(rows: &[u64], n: usize, key: u64, t: u64) -> usize
 }
 
 // Whether the row of the state s and the cover c is reached and shares a choice with u.
-pub fn stirs(s: u64, c: u64, key: u64, t: u64, u: u64) -> bool
+fn stirs(s: u64, c: u64, key: u64, t: u64, u: u64) -> bool
     requires { ⌜ (key < 4294967296) × (t < 2048) ⌝ }
     ensures { λ r. ⌜ r ≡ stirsOf key t u (row s c) ⌝ }
 {
@@ -128,7 +128,7 @@ pub fn next(rows: &[u64], i: usize, n: usize, key: u64, t: u64, u: u64) -> usize
 }
 
 // The capacity of e; the way out has no limit.
-pub fn capacity(tables: &[u64], e: u64) -> u64
+fn capacity(tables: &[u64], e: u64) -> u64
     requires { ⌜ e < 128 ⌝ }
     ensures { λ r. ⌜ r ≡ capOf (now (tables .entry)) e ⌝ }
 {

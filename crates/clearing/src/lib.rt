@@ -10,7 +10,7 @@ ghost use Rattle.visiting.specs.Visit.{Kept, Ways, Noted};
 ghost use Rattle.clearing.specs.Clear.{markedOf, Leaves, Marks, Due, Cleared, Enrols};
 
 // The blocks that end before t go from the first n rows, which close up, and the pairs of their places are told. Returns how many rows are left.
-pub fn sweep(rows: &mut [u64], n: usize, notes: &mut [u64], t: u64) -> usize
+fn sweep(rows: &mut [u64], n: usize, notes: &mut [u64], t: u64) -> usize
     requires { ⌜ (n * 2 ≤ length (now rows)) × Flagged (now notes) ⌝ }
     ensures { λ r. ⌜ (r ≤ n) × (rowsIn r (now (rows .exit)) ≡ sweptOf t (rowsIn n (now (rows .entry)))) × Leaves t (rowsIn n (now (rows .entry))) (now (notes .entry)) (now (notes .exit)) ⌝ }
 {
@@ -21,7 +21,7 @@ pub fn sweep(rows: &mut [u64], n: usize, notes: &mut [u64], t: u64) -> usize
         let c = rows[i * 2 + 1];
         if rows::ended(s, t) {
             let e = s / 4096 % 128;
-            let _x = waiting::tell_all(notes, e as usize, c);
+            waiting::tell_all(notes, e as usize, c);
         } else {
             rows[j * 2] = s;
             rows[j * 2 + 1] = c;
@@ -33,29 +33,28 @@ pub fn sweep(rows: &mut [u64], n: usize, notes: &mut [u64], t: u64) -> usize
 }
 
 // If s is a standing state that is due at t, its rows with covers among c wait now.
-pub fn call(tables: &[u64], notes: &mut [u64], s: u64, c: u64, t: u64) -> usize
+fn call(tables: &[u64], notes: &mut [u64], s: u64, c: u64, t: u64)
     requires { ⌜ (length (now notes) ≡ 6272) × Ways (now tables) × (s / 524288 < 8) ⌝ }
-    ensures { λ r. ⌜ now (notes .exit) ≡ markedOf (now (tables .entry)) t s c (now (notes .entry)) ⌝ }
+    ensures { λ _. ⌜ now (notes .exit) ≡ markedOf (now (tables .entry)) t s c (now (notes .entry)) ⌝ }
 {
     if s % 4096 != t {
-        return 0;
+        return;
     }
-    visiting::wake_due(tables, notes, s, t, c)
+    visiting::wake_due(tables, notes, s, t, c);
 }
 
 // The first n rows that are due at t wait now.
-pub fn mark(rows: &[u64], n: usize, tables: &[u64], notes: &mut [u64], t: u64) -> usize
+fn mark(rows: &[u64], n: usize, tables: &[u64], notes: &mut [u64], t: u64)
     requires { ⌜ (n * 2 ≤ length (now rows)) × Flagged (now notes) × Ways (now tables) × Every (λ r. r .state / 524288 < 8) (rowsIn n (now rows)) ⌝ }
-    ensures { λ r. ⌜ Marks (now (tables .entry)) t (rowsIn n (now (rows .entry))) (now (notes .entry)) (now (notes .exit)) ⌝ }
+    ensures { λ _. ⌜ Marks (now (tables .entry)) t (rowsIn n (now (rows .entry))) (now (notes .entry)) (now (notes .exit)) ⌝ }
 {
     let mut i = 0;
     while i < n {
         let s = rows[i * 2];
         let c = rows[i * 2 + 1];
-        let _x = call(tables, notes, s, c, t);
+        call(tables, notes, s, c, t);
         i += 1;
     }
-    i
 }
 
 // The blocks that end before t go from the first w words, if one shows such an end. Returns how many words are left.
@@ -71,26 +70,25 @@ pub fn clear(rows: &mut [u64], w: usize, notes: &mut [u64], tables: &[u64], t: u
 }
 
 // The rows of the first w words that are due at t wait now, if one shows that minute.
-pub fn wake(rows: &[u64], w: usize, tables: &[u64], notes: &mut [u64], t: u64) -> usize
+pub fn wake(rows: &[u64], w: usize, tables: &[u64], notes: &mut [u64], t: u64)
     requires { ⌜ Kept w (now rows) × Flagged (now notes) × (t < 720) × Ways (now tables) × Due (now tables) t (now notes) (rowsOf (take w (now rows))) × Every (λ r. endedOf t (r .state) ≡ false) (rowsOf (take w (now rows))) ⌝ }
-    ensures { λ r. ⌜ Flagged (now (notes .exit)) × Noted (now (tables .entry)) t (now (notes .exit)) (rowsOf (take w (now (rows .entry)))) ⌝ }
+    ensures { λ _. ⌜ Flagged (now (notes .exit)) × Noted (now (tables .entry)) t (now (notes .exit)) (rowsOf (take w (now (rows .entry)))) ⌝ }
 {
     if notes[2176 + t as usize] == 0 {
-        return 0;
+        return;
     }
-    mark(rows, w / 2, tables, notes, t)
+    mark(rows, w / 2, tables, notes, t);
 }
 
 // The minutes of the first n rows are shown.
-pub fn enrol(rows: &[u64], n: usize, notes: &mut [u64]) -> usize
+pub fn enrol(rows: &[u64], n: usize, notes: &mut [u64])
     requires { ⌜ (n * 2 ≤ length (now rows)) × Flagged (now notes) ⌝ }
-    ensures { λ r. ⌜ Enrols (rowsIn n (now (rows .entry))) (now (notes .exit)) ⌝ }
+    ensures { λ _. ⌜ Enrols (rowsIn n (now (rows .entry))) (now (notes .exit)) ⌝ }
 {
     let mut i = 0;
     while i < n {
         let s = rows[i * 2];
-        let _x = visiting::show(notes, s);
+        visiting::show(notes, s);
         i += 1;
     }
-    i
 }

@@ -10,7 +10,7 @@ ghost use Rattle.visiting.specs.Visit.{read, Kept, Ways, Noted, Seen};
 ghost use Rattle.elements.specs.Elements.{elementOf, elementsOf, unionOf, tidiedOf};
 
 // The passes for e of one train after the other, in order.
-pub fn trains(
+fn trains(
     rows: &mut [u64],
     w: usize,
     tmp: &mut [u64],
@@ -53,7 +53,7 @@ pub fn trains(
 }
 
 // All that stirred the pairs of the element e.
-pub fn union(notes: &[u64], e: usize) -> u64
+fn union(notes: &[u64], e: usize) -> u64
     requires { ⌜ (length (now notes) ≡ 6272) × (e < 128) ⌝ }
     ensures { λ r. ⌜ r ≡ unionOf 8 (now (notes .entry)) e ⌝ }
 {
@@ -67,17 +67,16 @@ pub fn union(notes: &[u64], e: usize) -> u64
 }
 
 // The word of the element e says whether one of its pairs is stirred.
-pub fn tidy(notes: &mut [u64], e: usize) -> usize
+fn tidy(notes: &mut [u64], e: usize)
     requires { ⌜ (length (now notes) ≡ 6272) × (e < 128) ⌝ }
-    ensures { λ r. ⌜ now (notes .exit) ≡ tidiedOf (now (notes .entry)) e ⌝ }
+    ensures { λ _. ⌜ now (notes .exit) ≡ tidiedOf (now (notes .entry)) e ⌝ }
 {
     let s = union(notes, e);
     notes[1024 + e] = s;
-    e
 }
 
 // The passes for e, if one of its pairs is stirred.
-pub fn element(
+fn element(
     rows: &mut [u64],
     w: usize,
     tmp: &mut [u64],
@@ -111,7 +110,7 @@ pub fn element(
         t,
         e,
     );
-    let _x = tidy(notes, e as usize);
+    tidy(notes, e as usize);
     v
 }
 

@@ -13,7 +13,7 @@ ghost use Rattle.entries.specs.Answer.{Answers};
 ghost use Rattle.joint.specs.Minutes.{Passes};
 
 // Minute t: the blocks that ended go, rows that are due now wait, then the passes of all elements.
-pub fn minute(
+fn minute(
     rows: &mut [u64],
     w: usize,
     tmp: &mut [u64],
@@ -34,12 +34,12 @@ pub fn minute(
         return w;
     }
     let v = clearing::clear(rows, w, notes, tables, t);
-    let _x = clearing::wake(rows, v, tables, notes, t);
+    clearing::wake(rows, v, tables, notes, t);
     elements::elements(rows, v, tmp, tables, met, held, entering, notes, weights, t)
 }
 
 // The minutes from 0 to `stop`.
-pub fn minutes(
+fn minutes(
     rows: &mut [u64],
     w: usize,
     tmp: &mut [u64],
@@ -84,7 +84,7 @@ pub fn run(
     ensures { λ r. ⌜ Answers (now (tables .entry)) stop (length (now (weights .entry))) r (now (rows .exit)) (now (weights .exit)) ⌝ }
 {
     let w = opening::begin(tables, rows);
-    let _x = clearing::enrol(rows, w / 2, notes);
+    clearing::enrol(rows, w / 2, notes);
     minutes(
         rows,
         w,

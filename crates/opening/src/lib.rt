@@ -10,7 +10,7 @@ ghost use Rattle.weigh.specs.Weigh.{Small};
 ghost use Rattle.opening.specs.First.{firstByte, firstBytes, firstRow, firstRows};
 
 // Train j's byte of the first cover of train k with delay d: that delay, all delays of another train, or 1 for a train that is not there.
-pub fn first_byte(tables: &[u64], k: u64, d: u64, j: u64) -> u64
+fn first_byte(tables: &[u64], k: u64, d: u64, j: u64) -> u64
     requires { ⌜ Small (now tables) × (d < 8) × (j < 8) ⌝ }
     ensures { λ r. ⌜ (r ≡ firstByte (now (tables .entry)) k d j) × (r < 256) ⌝ }
 {
@@ -25,7 +25,7 @@ pub fn first_byte(tables: &[u64], k: u64, d: u64, j: u64) -> u64
 }
 
 // The first cover of train k with delay d.
-pub fn first_cover(tables: &[u64], k: u64, d: u64) -> u64
+fn first_cover(tables: &[u64], k: u64, d: u64) -> u64
     requires { ⌜ Small (now tables) × (d < 8) ⌝ }
     ensures { λ r. ⌜ r ≡ firstBytes (now (tables .entry)) k d 8 0 ⌝ }
 {
@@ -40,7 +40,7 @@ pub fn first_cover(tables: &[u64], k: u64, d: u64) -> u64
 }
 
 // The first rows of train k, one per delay, from the place w on.
-pub fn first_train(tables: &[u64], k: u64, rows: &mut [u64], w: usize) -> usize
+fn first_train(tables: &[u64], k: u64, rows: &mut [u64], w: usize) -> usize
     requires { ⌜ Small (now tables) × (k < 8) × (w ≤ length (now rows)) ⌝ }
     ensures { λ r. ⌜ Put (now (rows .entry)) w (words (map (firstRow (now (tables .entry)) k) (below (getD (now (tables .entry)) (40 + k) 0)))) r (now (rows .exit)) ⌝ }
 {

@@ -11,7 +11,7 @@ ghost use Rattle.theory_lists.specs.Writes.{Put};
 ghost use Rattle.rows.specs.Rows.{words, rowsIn, Begins, endedOf, metOf, heldRows, enteredRows};
 
 // One word more, where there is room.
-pub fn put(out: &mut [u64], w: usize, x: u64) -> usize
+fn put(out: &mut [u64], w: usize, x: u64) -> usize
     requires { ⌜ w ≤ length (now out) ⌝ }
     ensures { λ r. ⌜ Put (now (out .entry)) w (x ∷ []) r (now (out .exit)) ⌝ }
 {
@@ -42,7 +42,7 @@ pub fn ended(s: u64, t: u64) -> bool
 }
 
 // The cover c of a row of the state s is written at w, and counts if it is another train's than k.
-pub fn offer(out: &mut [u64], w: usize, s: u64, c: u64, k: u64) -> usize
+fn offer(out: &mut [u64], w: usize, s: u64, c: u64, k: u64) -> usize
     requires { ⌜ w < length (now out) ⌝ }
     ensures { λ r. ⌜ (now (out .exit) ≡ set (now (out .entry)) w c) × (r ≡ w + length (one (not (eqb (s / 524288) k)) c)) ⌝ }
 {
@@ -102,7 +102,7 @@ pub fn hold(covers: &[u64], n: usize, s: u64, out: &mut [u64], w: usize) -> usiz
 }
 
 // The rows of a cover that enters: one of the state s and, where it leaves an element, one of the state b.
-pub fn enter_one(out: &mut [u64], w: usize, s: u64, b: u64, two: bool, c: u64) -> usize
+fn enter_one(out: &mut [u64], w: usize, s: u64, b: u64, two: bool, c: u64) -> usize
     requires { ⌜ w ≤ length (now out) ⌝ }
     ensures { λ r. ⌜ Put (now (out .entry)) w (words (enteredRows s b two (c ∷ []))) r (now (out .exit)) ⌝ }
 {

@@ -19,7 +19,7 @@ pub struct Ends {
 }
 
 // All that moved, where m moved before: with the cover c, unless its only piece is held and is c itself.
-pub fn moved_with(held: &[u64], h: usize, entered: usize, c: u64, m: u64) -> u64
+fn moved_with(held: &[u64], h: usize, entered: usize, c: u64, m: u64) -> u64
     requires { ⌜ h ≤ length (now held) ⌝ }
     ensures { λ r. ⌜ Sub m r × Stays (take h (now (held .entry))) entered c r ⌝ }
 {
@@ -34,7 +34,7 @@ pub fn moved_with(held: &[u64], h: usize, entered: usize, c: u64, m: u64) -> u64
 }
 
 // A row that asks: its held pieces are written as rows of its state, and those that enter are put to the others.
-pub fn serve(
+fn serve(
     met: &[u64],
     held: &mut [u64],
     entering: &mut [u64],
@@ -73,7 +73,7 @@ pub fn serve(
 }
 
 // The first n rows of src, one run after the other, from the place d of the rows on: those that are not stirred are kept, and the one after them is served.
-pub fn walk(
+fn walk(
     src: &[u64],
     n: usize,
     met: &[u64],

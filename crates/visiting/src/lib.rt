@@ -12,65 +12,64 @@ ghost use Rattle.waiting.specs.Notes.{Flagged};
 ghost use Rattle.visiting.specs.Visit.{arrivedOf, showOf, wakeOf, settledOf, passOf, read, Placed, Keyed, Kept, Ways, Noted, Seen};
 
 // The first n covers have entered: where the element is the train's last station, their weights arrive in the job's minute.
-pub fn arrive(
+fn arrive(
     tables: &[u64],
     covers: &[u64],
     n: usize,
     weights: &mut [u64],
     q: asking::Job,
-) -> usize
+)
     requires { ⌜ Small (now tables) × (n ≤ length (now covers)) × (q .train < 8) × (q .minute < 720) ⌝ }
-    ensures { λ r. ⌜ now (weights .exit) ≡ arrivedOf (now (tables .entry)) q (take n (now (covers .entry))) (now (weights .entry)) ⌝ }
+    ensures { λ _. ⌜ now (weights .exit) ≡ arrivedOf (now (tables .entry)) q (take n (now (covers .entry))) (now (weights .entry)) ⌝ }
 {
     if n == 0 {
-        return 0;
+        return;
     }
     if q.place != words::at(tables, 16 + q.train) {
-        return 0;
+        return;
     }
     let x = weigh::brought(tables, covers, n);
-    weigh::raise(weights, q.train * 720 + q.minute, x)
+    weigh::raise(weights, q.train * 720 + q.minute, x);
 }
 
 // The minute of the state s is shown.
-pub fn show(notes: &mut [u64], s: u64) -> usize
+pub fn show(notes: &mut [u64], s: u64)
     requires { ⌜ length (now notes) ≡ 6272 ⌝ }
-    ensures { λ r. ⌜ now (notes .exit) ≡ showOf (now (notes .entry)) s ⌝ }
+    ensures { λ _. ⌜ now (notes .exit) ≡ showOf (now (notes .entry)) s ⌝ }
 {
     let i = (s % 4096) as usize;
     notes[2176 + i] = 1;
-    i
 }
 
 // Rows of the state s with covers among c wait now, if they are due at t.
-pub fn wake_due(tables: &[u64], notes: &mut [u64], s: u64, t: u64, c: u64) -> usize
+pub fn wake_due(tables: &[u64], notes: &mut [u64], s: u64, t: u64, c: u64)
     requires { ⌜ (length (now notes) ≡ 6272) × Ways (now tables) × (s / 524288 < 8) ⌝ }
-    ensures { λ r. ⌜ now (notes .exit) ≡ wakeOf (now (tables .entry)) t s c (now (notes .entry)) ⌝ }
+    ensures { λ _. ⌜ now (notes .exit) ≡ wakeOf (now (tables .entry)) t s c (now (notes .entry)) ⌝ }
 {
     if !asking::due(s, t) {
-        return 0;
+        return;
     }
     let e = words::at(tables, 240 + s / 4096);
     let i = s / 524288 * 128 + e;
-    waiting::wake(notes, i as usize, c)
+    waiting::wake(notes, i as usize, c);
 }
 
 // After the pass: its own pair has asked, the pairs that it concerns are told of all that moved, and the minutes of the new states are shown.
-pub fn settle(tables: &[u64], notes: &mut [u64], q: asking::Job, from: u64, moved: u64) -> usize
+fn settle(tables: &[u64], notes: &mut [u64], q: asking::Job, from: u64, moved: u64)
     requires { ⌜ Flagged (now notes) × Ways (now tables) × (q .train < 8) × (q .place < 128) × (from < 128) × (q .stands / 524288 < 8) ⌝ }
-    ensures { λ r. ⌜ now (notes .exit) ≡ settledOf (now (tables .entry)) q from moved (now (notes .entry)) ⌝ }
+    ensures { λ _. ⌜ now (notes .exit) ≡ settledOf (now (tables .entry)) q from moved (now (notes .entry)) ⌝ }
 {
     let i = q.train * 128 + q.place;
     let own = i as usize;
     notes[own] = 0;
-    let _x = wake_due(tables, notes, q.stands, q.minute, moved);
-    let _y = waiting::tell_all(notes, from as usize, moved);
-    let _z = show(notes, q.stands);
-    show(notes, q.blocks)
+    wake_due(tables, notes, q.stands, q.minute, moved);
+    waiting::tell_all(notes, from as usize, moved);
+    show(notes, q.stands);
+    show(notes, q.blocks);
 }
 
 // The pass of train k for e, where row i is the first that is stirred. Returns the place after the last word, or the length of the rows for refusal 12.
-pub fn served(
+fn served(
     rows: &mut [u64],
     n: usize,
     i: usize,
@@ -96,23 +95,22 @@ pub fn served(
     let s = rows[i * 2];
     let q = asking::assign(tables, t, e, k, s);
     let z = serving::pass(rows, n, i, tmp, met, held, entering, key, u, q);
-    let _x = arrive(tables, entering, z.entering, weights, q);
-    let _y = settle(tables, notes, q, s / 4096 % 128, z.moved);
+    arrive(tables, entering, z.entering, weights, q);
+    settle(tables, notes, q, s / 4096 % 128, z.moved);
     z.place
 }
 
 // No row of the pair i waits.
-pub fn dismiss(notes: &mut [u64], i: usize) -> usize
+fn dismiss(notes: &mut [u64], i: usize)
     requires { ⌜ (length (now notes) ≡ 6272) × (i < 1024) ⌝ }
-    ensures { λ r. ⌜ now (notes .exit) ≡ set (set (now (notes .entry)) i 0) (1152 + i) 0 ⌝ }
+    ensures { λ _. ⌜ now (notes .exit) ≡ set (set (now (notes .entry)) i 0) (1152 + i) 0 ⌝ }
 {
     notes[i] = 0;
     notes[1152 + i] = 0;
-    i
 }
 
 // The first of the first n rows that asks for e as train k, or n: few rows are asked one by one, and of many those of the one place that leads there.
-pub fn seek(rows: &[u64], n: usize, tables: &[u64], t: u64, e: u64, k: u64) -> usize
+fn seek(rows: &[u64], n: usize, tables: &[u64], t: u64, e: u64, k: u64) -> usize
     requires { ⌜ (n * 2 ≤ length (now rows)) × Within t e k × Ways (now tables) × Placed (rowsIn n (now rows)) ⌝ }
     ensures { λ r. ⌜ (r ≤ n) × Every (λ x. asksOf (now (tables .entry)) t e k (x .state) ≡ false) (rowsIn r (now (rows .entry))) × (r < n → asksOf (now (tables .entry)) t e k (getD (now (rows .entry)) (r * 2) 0) ≡ true) ⌝ }
 {
@@ -154,7 +152,7 @@ pub fn visit(
     let n = w / 2;
     let f = seek(rows, n, tables, t, e, k);
     if f == n {
-        let _x = dismiss(notes, i);
+        dismiss(notes, i);
         return w;
     }
     let s = rows[f * 2];

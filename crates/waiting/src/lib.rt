@@ -5,40 +5,37 @@ ghost use lib.ListN.{length};
 ghost use Rattle.waiting.specs.Notes.{toldOf, toldAll, freshOf};
 
 // The pair i is told of the cover c, if rows of it wait.
-pub fn tell(notes: &mut [u64], i: usize, c: u64) -> usize
+fn tell(notes: &mut [u64], i: usize, c: u64)
     requires { ⌜ (length (now notes) ≡ 6272) × (i < 1024) ⌝ }
-    ensures { λ r. ⌜ now (notes .exit) ≡ toldOf (now (notes .entry)) i c ⌝ }
+    ensures { λ _. ⌜ now (notes .exit) ≡ toldOf (now (notes .entry)) i c ⌝ }
 {
     if notes[1152 + i] == 0 {
-        return 0;
+        return;
     }
     let was = notes[i];
     notes[i] = was | c;
     notes[1024 + i % 128] = 1;
-    i
 }
 
 // The pairs of all trains with the element e are told of the cover c.
-pub fn tell_all(notes: &mut [u64], e: usize, c: u64) -> usize
+pub fn tell_all(notes: &mut [u64], e: usize, c: u64)
     requires { ⌜ (length (now notes) ≡ 6272) × (e < 128) ⌝ }
-    ensures { λ r. ⌜ now (notes .exit) ≡ toldAll 8 (now (notes .entry)) e c ⌝ }
+    ensures { λ _. ⌜ now (notes .exit) ≡ toldAll 8 (now (notes .entry)) e c ⌝ }
 {
     let mut k = 0;
     while k < 8 {
-        let _x = tell(notes, k * 128 + e, c);
+        tell(notes, k * 128 + e, c);
         k += 1;
     }
-    k
 }
 
 // A row of the pair i with the cover c now waits.
-pub fn wake(notes: &mut [u64], i: usize, c: u64) -> usize
+pub fn wake(notes: &mut [u64], i: usize, c: u64)
     requires { ⌜ (length (now notes) ≡ 6272) × (i < 1024) ⌝ }
-    ensures { λ r. ⌜ now (notes .exit) ≡ freshOf (now (notes .entry)) i c ⌝ }
+    ensures { λ _. ⌜ now (notes .exit) ≡ freshOf (now (notes .entry)) i c ⌝ }
 {
     let was = notes[i];
     notes[1152 + i] = 1;
     notes[i] = was | c;
     notes[1024 + i % 128] = 1;
-    i
 }

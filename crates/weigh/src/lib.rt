@@ -5,7 +5,7 @@ ghost use lib.ListN.{length, take, getD, set};
 ghost use Rattle.weigh.specs.Weigh.{setWeight, weightOf, broughtOf, Small};
 
 // The weight of the delays of train j whose bits x has.
-pub fn set_weight(tables: &[u64], j: u64, x: u64) -> u64
+fn set_weight(tables: &[u64], j: u64, x: u64) -> u64
     requires { ⌜ Small (now tables) × (j < 8) ⌝ }
     ensures { λ r. ⌜ r ≡ setWeight (now (tables .entry)) (112 + j * 8) 8 x ⌝ }
 {
@@ -24,7 +24,7 @@ pub fn set_weight(tables: &[u64], j: u64, x: u64) -> u64
 }
 
 // The weight of a packed cover: the product of its sets' weights, train by train.
-pub fn cover_weight(tables: &[u64], c: u64) -> u64
+fn cover_weight(tables: &[u64], c: u64) -> u64
     requires { ⌜ Small (now tables) ⌝ }
     ensures { λ r. ⌜ r ≡ weightOf (now (tables .entry)) c ⌝ }
 {
@@ -57,13 +57,12 @@ pub fn brought(tables: &[u64], covers: &[u64], n: usize) -> u64
 }
 
 // The weight at i is raised by x, where the list has that place.
-pub fn raise(weights: &mut [u64], i: u64, x: u64) -> usize
-    ensures { λ r. ⌜ now (weights .exit) ≡ set (now (weights .entry)) i ((getD (now (weights .entry)) i 0 + x) % 2 ^ 64) ⌝ }
+pub fn raise(weights: &mut [u64], i: u64, x: u64)
+    ensures { λ _. ⌜ now (weights .exit) ≡ set (now (weights .entry)) i ((getD (now (weights .entry)) i 0 + x) % 2 ^ 64) ⌝ }
 {
     let j = i as usize;
     if j < weights.len() {
         let was = weights[j];
         weights[j] = std::num::wrapping_add_u64(was, x);
     }
-    j
 }
