@@ -68,10 +68,11 @@ stirredOf T q u r = cond (askingOf T q r) (fullOf 8 (bitAnd (r .cover) u)) false
 
 -- ---- contracts
 
--- the place from which train k goes on to e, or 66 if there is none
-pub data Before (T : List ℕ) (k e p : ℕ) : Type 0 where
-  here : p ≤ 65 → getD T (240 + (k * 128 + p)) 0 ≡ e → Before T k e p
-  nowhere : p ≡ 66 → ((j : ℕ) → j ≤ 65 → getD T (240 + (k * 128 + j)) 0 ≡ e → ⊥) → Before T k e p
+-- the first place from which train k goes on to e, or 66 if there is none
+pub record Before (T : List ℕ) (k e p : ℕ) : Type 0 where
+  pub few : p ≤ 66
+  pub first : (j : ℕ) → j < p → getD T (240 + (k * 128 + j)) 0 ≡ e → ⊥
+  pub next : p < 66 → getD T (240 + (k * 128 + p)) 0 ≡ e
 
 -- the minute, element and train of a pass
 pub record Within (t e k : ℕ) : Type 0 where

@@ -31,7 +31,7 @@ pub fn due(s: u64, t: u64) -> bool
     !(t < s % 2048)
 }
 
-// The place from which train k goes on to e, or 66 if there is none.
+// The first place from which train k goes on to e, or 66 if there is none.
 pub fn before(tables: &[u64], k: u64, e: u64) -> u64
     requires { ⌜ k < 8 ⌝ }
     ensures { λ r. ⌜ Before (now (tables .entry)) k e r ⌝ }

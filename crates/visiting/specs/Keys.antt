@@ -4,6 +4,7 @@ use mathlib.Core.Path.{_≡_, refl, ap, sym, _∙_, subst}
 use mathlib.Core.Bool.{Bool, true, false, cond, _||_, false≢true}
 use mathlib.Core.List.{List, [], _∷_}
 use Prim.Native.Nat.{ℕ, _+_, _-_, _*_, _/_, _%_, _≤_, _<_}
+use native.Mathlib.Decide.{decLt}
 use native.Mathlib.Omega.{arith}
 use lib.Bits.{bitAnd}
 use lib.ListN.{length, getD}
@@ -13,7 +14,6 @@ use Rattle.cut.specs.Cut.{fullOf}
 use Rattle.rows.specs.Rows.{Row, rowsOf, rowsIn}
 use Rattle.rows.specs.Written.{rows-split, row-of}
 use Rattle.asking.specs.Ask.{asksOf, askerOf, jobOf, reachOf, stirsOf, stirredOf, Before, Within}
-use Rattle.asking.specs.Ask.Before.{here, nowhere}
 use Rattle.asking.specs.Asking.{asking}
 use Rattle.asking.specs.Reach.{reach-yes, reach-is, due-is, due-yes, asks-yes}
 use Rattle.waiting.specs.Calm.{Settled}
@@ -33,38 +33,36 @@ module _ (T : List ℕ) (t e k p : ℕ) (ways : Ways T) (within : Within t e k) 
   key = k * 524288 + p * 4096
 
   asks-reach : (s : ℕ) → s / 524288 < 8 → s / 4096 % 128 ≤ 65 → Before T k e p → asksOf T t e k s ≡ true → reachOf key t s ≡ true
-  asks-reach s small near (here low next) h =
-      let a = asking T t e k s h in
-      let d = due-is t s (a .due) in
-      let same : s / 4096 ≡ k * 128 + p = ways .one-place (s / 4096) (k * 128 + p) (omega arith) (omega (arith, within .train)) near (omega arith) (omega (arith, a .train)) (omega (arith, a .next, within .place))
-      (a .next ∙ sym next) in
-      reach-yes key t s (omega arith) (omega (arith, d .0, d .1))
-  asks-reach s small near (nowhere none never) h =
-      let a = asking T t e k s h in
-      let same : s / 4096 ≡ k * 128 + s / 4096 % 128 = omega (arith, a .train) in
-      absurd (never (s / 4096 % 128) near (ap (λ (x : ℕ). getD T (240 + x) 0) (sym same) ∙ a .next))
+  asks-reach s small near b h = go (decLt p 66)
+    where
+      go : Dec (p < 66) → reachOf key t s ≡ true
+      go (yes low) =
+          let a = asking T t e k s h in
+          let d = due-is t s (a .due) in
+          let same : s / 4096 ≡ k * 128 + p = ways .one-place (s / 4096) (k * 128 + p) (omega arith) (omega (arith, within .train)) near (omega arith) (omega (arith, a .train)) (omega (arith, a .next, within .place))
+          (a .next ∙ sym (b .next low)) in
+          reach-yes key t s (omega arith) (omega (arith, d .0, d .1))
+      go (no none) =
+          let a = asking T t e k s h in
+          let same : s / 4096 ≡ k * 128 + s / 4096 % 128 = omega (arith, a .train) in
+          absurd (b .first (s / 4096 % 128) (omega (arith, near)) (ap (λ (x : ℕ). getD T (240 + x) 0) (sym same) ∙ a .next))
 
   reach-asks : (s : ℕ) → s / 4096 % 128 ≤ 65 → Before T k e p → reachOf key t s ≡ true → asksOf T t e k s ≡ true
-  reach-asks s near (here low next) h =
+  reach-asks s near b h =
       let r = reach-is key t s h in
-      let same : s / 4096 ≡ k * 128 + p = omega (arith, r .0, r .1, within .minute) in
+      let same : s / 4096 ≡ k * 128 + p = omega (arith, r .0, r .1, within .minute, b .few) in
       asks-yes T t e k s (record {
-        train = omega (arith, same);
+        train = omega (arith, same, b .few);
         due = due-yes t s (omega (arith, r .0, r .1, within .minute)) (omega (arith, r .0, r .1, within .minute));
-        next = ap (λ (x : ℕ). getD T (240 + x) 0) same ∙ next;
+        next = ap (λ (x : ℕ). getD T (240 + x) 0) same ∙ b .next (omega (arith, near, same, b .few));
       })
-  reach-asks s near (nowhere none never) h = let r = reach-is key t s h in absurd (omega (arith, r .0, r .1, within .minute))
-
-  pub before-few : Before T k e p → p ≤ 66
-  before-few (here low next) = omega arith
-  before-few (nowhere none never) = omega arith
 
   -- ---- all rows
 
   pub keyed : (l : List Row) → Before T k e p → Placed l → Keyed T t e k key l
   keyed l b placed = record {
     base = omega arith;
-    low = omega (arith, within .train, before-few b);
+    low = omega (arith, within .train, b .few);
     asks = every-more (λ r. (r .state / 524288 < 8) × (r .state / 4096 % 128 ≤ 65)) (λ r. asksOf T t e k (r .state) ≡ reachOf key t (r .state))
         (λ r h. both-ways (asksOf T t e k (r .state)) (reachOf key t (r .state)) (asks-reach (r .state) (h .0) (h .1) b) (reach-asks (r .state) (h .1) b)) l placed;
   }
@@ -80,7 +78,14 @@ keyed-by T t e k s l ways within near asks placed =
     let a = asking T t e k s asks in
     let spot : s / 4096 ≡ k * 128 + s / 4096 % 128 = omega (arith, a .train) in
     let same : k * 524288 + s / 4096 % 128 * 4096 ≡ s - s % 4096 = omega (arith, spot) in
-    subst (λ (x : ℕ). Keyed T t e k x l) same (keyed T t e k (s / 4096 % 128) ways within l (here near (ap (λ (x : ℕ). getD T (240 + x) 0) (sym spot) ∙ a .next)) placed)
+    let before : Before T k e (s / 4096 % 128) = record {
+      few = omega (arith, near);
+      first = λ j less g.
+          let here : s / 4096 ≡ k * 128 + j = ways .one-place (s / 4096) (k * 128 + j) (omega (arith, spot, within .train)) (omega (arith, near, within .train)) near (omega (arith, near)) (omega (arith, spot, near)) (omega (arith, a .next, within .place)) (a .next ∙ sym g) in
+          omega (arith, spot, here);
+      next = λ low. ap (λ (x : ℕ). getD T (240 + x) 0) (sym spot) ∙ a .next;
+    } in
+    subst (λ (x : ℕ). Keyed T t e k x l) same (keyed T t e k (s / 4096 % 128) ways within l before placed)
 
 module _ (T : List ℕ) (t e k key : ℕ) where
   front : (f n : ℕ) (rows : List ℕ) → f ≤ n → n * 2 ≤ length rows → Every (λ r. asksOf T t e k (r .state) ≡ reachOf key t (r .state)) (rowsIn n rows)

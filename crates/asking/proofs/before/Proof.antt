@@ -4,7 +4,6 @@ use Prim.Native.Nat.{ℕ, _+_, _-_, _*_, _≤_, _<_}
 use native.Mathlib.Omega.{arith}
 use Rattle.asking.specs.Reach.{nowhere-more}
 use lib.ListN.{getD}
-use Rattle.asking.specs.Ask.Before.{here, nowhere}
 use borrow.Author.Needs.{needs}
 use Rattle.asking.proofs.before.Statement.{statement}
 use Rattle.asking.proofs.before.Tie as tie
@@ -34,7 +33,9 @@ at-requires : tie.Need-at-requires Inv-loop μ-loop
 at-requires c κs = search needs
 
 returns : tie.Need-returns Inv-loop μ-loop
-returns c = here (omega arith) (sym (c .before .at .ensures) ∙ c .if1 .taken)
+returns c =
+    let l = c .before .before .before .loop in
+    record { few = omega arith; first = l .inv .1; next = λ h. sym (c .before .at .ensures) ∙ c .if1 .taken }
 
 add-p : tie.Need-add-p Inv-loop μ-loop
 add-p c = search needs
@@ -46,7 +47,7 @@ loop-again : tie.Need-loop-again Inv-loop μ-loop
 loop-again c = (omega arith, nowhere-more (c .before .before .before .before .before .args .tables .now) (c .before .before .before .before .before .args .k) (c .before .before .before .before .before .args .e) (c .before .before .before .loop .p) (c .before .before .before .loop .inv .1) (λ g. c .if1 .left (c .before .at .ensures ∙ g)))
 
 returns-2 : tie.Need-returns-2 Inv-loop μ-loop
-returns-2 c = nowhere (omega arith) (λ j h g. c .before .loop .inv .1 j (omega arith) g)
+returns-2 c = record { few = omega arith; first = c .before .loop .inv .1; next = λ h. absurd (omega arith) }
 
 pub before-spec : {M : Type 1} → statement M
 before-spec =

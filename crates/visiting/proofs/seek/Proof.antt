@@ -2,7 +2,7 @@
 use Prim.Native.Nat.{_+_, _*_}
 use native.Mathlib.Omega.{arith}
 use Rattle.rows.specs.Rows.{rowsIn}
-use Rattle.visiting.specs.Keys.{before-few, keyed, found-reached}
+use Rattle.visiting.specs.Keys.{keyed, found-reached}
 use borrow.Author.Needs.{needs}
 use Rattle.visiting.proofs.seek.Statement.{statement}
 use Rattle.visiting.proofs.seek.Tie as tie
@@ -25,22 +25,17 @@ mul-first-reached : tie.Need-mul-first-reached
 mul-first-reached c = search needs
 
 mul-first-reached-2 : tie.Need-mul-first-reached-2
-mul-first-reached-2 c =
-    let s = c .before .before .before .before .args in
-    let p = c .before .before .before .before .pre in
-    record { fits = omega (arith, before-few (s .tables .now) (s .t) (s .e) (s .k) (c .before2 .result) (p .2) (p .1) (c .before2 .ensures)) }
+mul-first-reached-2 c = record { fits = omega (arith, c .before2 .ensures .few) }
 
 add-first-reached : tie.Need-add-first-reached
 add-first-reached c =
-    let s = c .before .before .before .before .args in
     let p = c .before .before .before .before .pre in
-    record { fits = omega (arith, p .1 .train, before-few (s .tables .now) (s .t) (s .e) (s .k) (c .before2 .result) (p .2) (p .1) (c .before2 .ensures)) }
+    record { fits = omega (arith, p .1 .train, c .before2 .ensures .few) }
 
 first-reached-requires : tie.Need-first-reached-requires
 first-reached-requires c κs =
-    let s = c .before .before .before .before .args in
     let p = c .before .before .before .before .pre in
-    (p .0, omega (arith, p .1 .train, before-few (s .tables .now) (s .t) (s .e) (s .k) (c .before2 .result) (p .2) (p .1) (c .before2 .ensures)), omega (arith, p .1 .minute))
+    (p .0, omega (arith, p .1 .train, c .before2 .ensures .few), omega (arith, p .1 .minute))
 
 returns-2 : tie.Need-returns-2
 returns-2 c =
