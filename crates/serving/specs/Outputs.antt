@@ -1,12 +1,15 @@
 -- Laws of the two outputs of a pass, the rows and the covers that enter: what one row writes after another is what both write together.
 -- Each piece makes a row in one of the two, so pieces that leave no place leave none in the rows. Assumes nothing.
 use mathlib.Core.Path.{_≡_, refl, ap, sym, _∙_}
+use mathlib.Core.Bool.{Bool, true, false, cond}
 use mathlib.Core.List.{List, [], _∷_, _++_, map}
 use Prim.Native.Nat.{ℕ, _+_, _-_, _*_, _≤_, _<_}
 use native.Mathlib.Decide.{decLt}
 use native.Mathlib.Omega.{arith}
 use lib.ListN.{length, take, getD, length-append, length-map}
+use lib.Dec.{eqb}
 use lib.Bits.{bitOr, and-self}
+use borrow.Author.Tests.{eqb-true}
 use lib.Seq.{sets, length-sets}
 use Rattle.cut.specs.declared.Pieces.{Pieces}
 use Rattle.cut.specs.Cut.{Part, heldOf, enteringOf, Room, fitting, Wrote}
@@ -15,7 +18,7 @@ use Rattle.quiet.specs.Parts.{Sub, sub-or-left, sub-or-right}
 use Rattle.theory_lists.specs.Writes.{sets-append, Put, put-none, put-join, put-length, put-fits, put-start}
 use Rattle.rows.specs.Rows.{row, words, heldRows}
 use Rattle.rows.specs.Written.{words-length}
-use Rattle.serving.specs.Pass.{Came, Two, Stays, Went}
+use Rattle.serving.specs.Pass.{movedOf, Came, Two, Stays, Went}
 use Rattle.serving.specs.Pass.Stays.{whole, moved-on}
 use Rattle.serving.specs.Pass.Went.{as-it-is, moves}
 use Rattle.serving.specs.Pass.Two.{fits, over}
@@ -132,9 +135,21 @@ module _ (room : ℕ) (w : Pieces) {z : Pieces} {held entering held′ entering�
 
 -- ---- a cover that is held as it is
 
-pub held-whole : (l : List ℕ) (h c entered m : ℕ) → h ≡ 1 → h ≤ length l → getD l 0 0 ≡ c → entered ≡ 0 → Sub m m × Stays (take h l) entered c m
+held-whole : (l : List ℕ) (h c entered m : ℕ) → h ≡ 1 → h ≤ length l → getD l 0 0 ≡ c → entered ≡ 0 → Sub m m × Stays (take h l) entered c m
 held-whole [] h c entered m e k g z = absurd (omega arith)
 held-whole (x ∷ l) h c entered m e k g z = (and-self m, whole (ap (λ (n : ℕ). take n (x ∷ l)) e ∙ ap (λ (y : ℕ). y ∷ []) g) z)
 
-pub moved-more : (hs : List ℕ) (entered c m : ℕ) → Sub m (bitOr m c) × Stays hs entered c (bitOr m c)
+moved-more : (hs : List ℕ) (entered c m : ℕ) → Sub m (bitOr m c) × Stays hs entered c (bitOr m c)
 moved-more hs entered c m = (sub-or-left m c, moved-on (sub-or-right m c))
+
+-- what moved before is kept, and the cover is held as it is or among all that moved
+pub moved-stays : (l : List ℕ) (h entered c m : ℕ) {r : ℕ} → r ≡ movedOf h (getD l 0 0) entered c m → h ≤ length l → Sub m r × Stays (take h l) entered c r
+unfolding movedOf
+moved-stays l h entered c m {r} w k = rw w (go (eqb h 1) (eqb entered 0) (eqb (getD l 0 0) c) refl refl refl)
+  where
+    go : (x y z : Bool) → eqb h 1 ≡ x → eqb entered 0 ≡ y → eqb (getD l 0 0) c ≡ z
+        → Sub m (cond x (cond y (cond z m (bitOr m c)) (bitOr m c)) (bitOr m c)) × Stays (take h l) entered c (cond x (cond y (cond z m (bitOr m c)) (bitOr m c)) (bitOr m c))
+    go true true true f g e = held-whole l h c entered m (eqb-true h 1 f) k (eqb-true (getD l 0 0) c e) (eqb-true entered 0 g)
+    go true true false f g e = moved-more (take h l) entered c m
+    go true false z f g e = moved-more (take h l) entered c m
+    go false y z f g e = moved-more (take h l) entered c m

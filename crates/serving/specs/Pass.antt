@@ -5,6 +5,8 @@ use mathlib.Core.List.{List, [], _∷_, _++_}
 use Prim.Native.Nat.{ℕ, _+_, _*_, _/_, min, _≤_, _<_}
 use lib.ListN.{length, take, getD}
 use lib.Seq.{sets}
+use lib.Dec.{eqb}
+use lib.Bits.{bitOr}
 use Rattle.rules.specs.Lists.{each}
 use Rattle.cut.specs.Cut.{carried, heldOf, enteringOf}
 use Rattle.theory_lists.specs.Writes.{Put}
@@ -60,6 +62,10 @@ unfoldable pub stirredPass : List ℕ → Job → ℕ → List Row → List Row
 stirredPass T q u l = each (holdStirred T q u (metFor q l)) l ++ enteredRows (q .stands) (q .blocks) (q .two) (stirredCovers T q u l)
 
 -- ---- contracts
+
+-- all that moved, where m moved before: with the cover c, unless its only piece is held and is c itself; h pieces are held, the first of them x
+unfoldable pub movedOf : ℕ → ℕ → ℕ → ℕ → ℕ → ℕ
+movedOf h x entered c m = cond (eqb h 1) (cond (eqb entered 0) (cond (eqb x c) m (bitOr m c)) (bitOr m c)) (bitOr m c)
 
 -- the cover c whose held pieces are hs, of which so many entered: it is held as it is, or among all that moved
 pub data Stays (hs : List ℕ) (entered c moved : ℕ) : Type 0 where

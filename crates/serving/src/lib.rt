@@ -2,14 +2,14 @@
 ghost use mathlib.Core.Path.{_≡_};
 ghost use mathlib.Core.Bool.{false};
 ghost use Prim.Native.Nat.{_*_, _/_, _≤_, _<_};
-ghost use lib.ListN.{length, take};
+ghost use lib.ListN.{length, getD};
 ghost use Rattle.rules.specs.Lists.{each};
 ghost use Rattle.theory_lists.specs.Every.{Every};
 ghost use Rattle.cut.specs.Cut.{carried, heldOf, enteringOf};
 ghost use Rattle.rows.specs.Rows.{row, words, rowsIn, heldRows};
 ghost use Rattle.quiet.specs.Parts.{Sub};
 ghost use Rattle.asking.specs.Ask.{metFor, stirsOf};
-ghost use Rattle.serving.specs.Pass.{holdBy, enterBy, coversBy, passBy, Stays, Went, Two, Passed, Space};
+ghost use Rattle.serving.specs.Pass.{holdBy, enterBy, coversBy, passBy, movedOf, Went, Two, Passed, Space};
 
 // The place after the last word of the rows, how many covers have entered, and all that moved: the covers of the rows that were cut or entered.
 pub struct Ends {
@@ -21,16 +21,18 @@ pub struct Ends {
 // All that moved, where m moved before: with the cover c, unless its only piece is held and is c itself.
 fn moved_with(held: &[u64], h: usize, entered: usize, c: u64, m: u64) -> u64
     requires { ⌜ h ≤ length (now held) ⌝ }
-    ensures { λ r. ⌜ Sub m r × Stays (take h (now (held .entry))) entered c r ⌝ }
+    ensures { λ r. ⌜ r ≡ movedOf h (getD (now (held .entry)) 0 0) entered c m ⌝ }
 {
-    if h == 1 {
-        if entered == 0 {
-            if held[0] == c {
-                return m;
-            }
-        }
+    if h != 1 {
+        return m | c;
     }
-    m | c
+    if entered != 0 {
+        return m | c;
+    }
+    if held[0] != c {
+        return m | c;
+    }
+    m
 }
 
 // A row that asks: its held pieces are written as rows of its state, and those that enter are put to the others.

@@ -4,11 +4,12 @@ use mathlib.Core.Path.{refl}
 use Prim.Native.Nat.{_/_}
 use native.Mathlib.Omega.{arith}
 use lib.ListN.{length}
+use Rattle.cut.specs.declared.Pieces.{Pieces}
 use Rattle.cut.specs.Cut.{carried}
 use Rattle.cut.specs.Written.{wrote-held-length}
 use Rattle.quiet.specs.Parts.{sub-or-left, sub-or-right}
 use Rattle.serving.specs.Pass.Went.{moves}
-use Rattle.serving.specs.Outputs.{pieces-count, pieces-over, pieces-fit, pieces-went}
+use Rattle.serving.specs.Outputs.{pieces-count, pieces-over, pieces-fit, pieces-went, moved-stays}
 use borrow.Author.Needs.{needs}
 use Rattle.serving.proofs.serve.Statement.{statement}
 use Rattle.serving.proofs.serve.Tie as tie
@@ -62,8 +63,13 @@ same-length-5 c = search needs
 returns-2 : tie.Need-returns-2
 returns-2 c =
     let s = c .before .before .before .before .before .before .before .before .before .before .before .before .before .before .before .before .before .before .before .before .before .args in
-    let m = c .moved-with .ensures in
-    (pieces-fit (length (s .rows .now) / 2) (record { held = 0; entering = s .a }) (carried (s .q .cap) (s .met .now) 0 (s .c)) (record { count = omega arith; heldLong = omega arith; enteringLong = omega arith }) refl (c .before .before .before .before .before .before .before .before .before .before .before .before .before .before .carry .ensures) (s .s) (s .d) (c .before .before .before .before .before .before .before .before .if1 .left) (omega arith) (c .before .before .before .before .before .hold .ensures), (m .0, pieces-went (length (s .rows .now) / 2) (record { held = 0; entering = s .a }) (carried (s .q .cap) (s .met .now) 0 (s .c)) (record { count = omega arith; heldLong = omega arith; enteringLong = omega arith }) refl (c .before .before .before .before .before .before .before .before .before .before .before .before .before .before .carry .ensures) (s .s) (s .c) (c .moved-with .result) (c .before .before .before .before .before .before .before .before .if1 .left) (m .1)))
+    let room = length (s .rows .now) / 2 in
+    let w : Pieces = record { held = 0; entering = s .a } in
+    let pieces = carried (s .q .cap) (s .met .now) 0 (s .c) in
+    let wrote = c .before .before .before .before .before .before .before .before .before .before .before .before .before .before .carry .ensures in
+    let some = c .before .before .before .before .before .before .before .before .if1 .left in
+    let m = moved-stays (c .before .before .before .before .before .before .before .before .before .before .before .before .before .before .carry .last .1 .0) (c .before .before .before .before .before .before .before .before .before .before .before .before .before .before .carry .result .held) _ _ _ (c .moved-with .ensures) (omega (arith, pieces-count room w pieces (record { count = omega arith; heldLong = omega arith; enteringLong = omega arith }) refl wrote, wrote-held-length wrote)) in
+    (pieces-fit room w pieces (record { count = omega arith; heldLong = omega arith; enteringLong = omega arith }) refl wrote (s .s) (s .d) some (omega arith) (c .before .before .before .before .before .hold .ensures), (m .0, pieces-went room w pieces (record { count = omega arith; heldLong = omega arith; enteringLong = omega arith }) refl wrote (s .s) (s .c) (c .moved-with .result) some (m .1)))
 
 pub serve-spec : {M : Type 1} → statement M
 serve-spec =
