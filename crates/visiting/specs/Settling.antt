@@ -3,12 +3,12 @@
 use mathlib.Core.Path.{_≡_, refl, ap, sym, _∙_}
 use mathlib.Core.Bool.{Bool, true, false, cond, false≢true}
 use mathlib.Core.List.{List}
-use Prim.Native.Nat.{ℕ, zero, suc, _+_, _*_, _/_, _%_, _≤_, _<_}
+use Prim.Native.Nat.{ℕ, _+_, _*_, _/_, _%_, _≤_, _<_}
 use native.Mathlib.Omega.{arith}
 use borrow.Author.Tests.{eq-eqb, eqb-true, eqb-false, ltb-true}
 use lib.ListN.{length, getD, set, length-set}
 use lib.Seq.{getD-set-same, getD-set-other}
-use lib.Bits.{bitAnd, bitOr}
+use lib.Bits.{bitAnd}
 use lib.Dec.{eqb, ltb}
 use Rattle.quiet.specs.Parts.{Sub, sub-trans}
 use Rattle.weigh.specs.Weigh.{Small}
@@ -18,7 +18,7 @@ use Rattle.asking.specs.Asking.{asking}
 use Rattle.waiting.specs.Calm.{waitsOf, spot, spotOf}
 use Rattle.waiting.specs.Stirred.{due-waits, Spread, Ready}
 use Rattle.waiting.specs.Notes.{stirIn, askedIn, toldAll, freshOf, Flagged, Grows}
-use Rattle.waiting.specs.Telling.{grows-same, grows-trans, grows-minute, told-keeps, TellsAll, told-all, Freshens, fresh-law, told-length}
+use Rattle.waiting.specs.Telling.{grows-same, grows-trans, grows-minute, told-keeps, TellsAll, told-all, Freshens, fresh-law}
 use Rattle.visiting.specs.Visit.{showOf, wakeOf, settledOf, Ways}
 
 -- ---- the pair of a state
@@ -205,27 +205,7 @@ module _ (T : List ℕ) (t e k s : ℕ) (within : Within t e k) (small : Small T
     one-place = same-place;
   }
 
--- ---- lengths
-
-pub wake-length : (T : List ℕ) (t s c : ℕ) (N : List ℕ) → length (wakeOf T t s c N) ≡ length N
-unfolding wakeOf freshOf
-wake-length T t s c N = go (dueOf t s)
-  where
-    go : (b : Bool) → length (cond b (freshOf N (spotOf T s) c) N) ≡ length N
-    go true =
-        length-set (set (set N (1152 + spotOf T s) 1) (spotOf T s) (bitOr (getD N (spotOf T s) 0) c)) (1024 + spotOf T s % 128) 1
-        ∙ length-set (set N (1152 + spotOf T s) 1) (spotOf T s) (bitOr (getD N (spotOf T s) 0) c)
-        ∙ length-set N (1152 + spotOf T s) 1
-    go false = refl
-
-pub toldAll-length : (k : ℕ) (N : List ℕ) (e c : ℕ) → length (toldAll k N e c) ≡ length N
-unfolding toldAll
-toldAll-length zero N e c = refl
-toldAll-length (suc k) N e c = told-length (toldAll k N e c) (spot k e) c ∙ toldAll-length k N e c
-
-pub show-length : (N : List ℕ) (s : ℕ) → length (showOf N s) ≡ length N
-unfolding showOf
-show-length N s = length-set N (2176 + s % 4096) 1
+-- ---- the steps
 
 pub settled-steps : (T : List ℕ) (q : Job) (from moved : ℕ) (N a b d : List ℕ) → a ≡ wakeOf T (q .minute) (q .stands) moved (set N (spot (q .train) (q .place)) 0)
     → b ≡ toldAll 8 a from moved → d ≡ showOf b (q .stands) → showOf d (q .blocks) ≡ settledOf T q from moved N

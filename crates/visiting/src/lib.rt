@@ -12,13 +12,7 @@ ghost use Rattle.waiting.specs.Notes.{Flagged};
 ghost use Rattle.visiting.specs.Visit.{arrivedOf, showOf, wakeOf, settledOf, passOf, read, Placed, Keyed, Kept, Ways, Noted, Seen};
 
 // The first n covers have entered: where the element is the train's last station, their weights arrive in the job's minute.
-fn arrive(
-    tables: &[u64],
-    covers: &[u64],
-    n: usize,
-    weights: &mut [u64],
-    q: asking::Job,
-)
+fn arrive(tables: &[u64], covers: &[u64], n: usize, weights: &mut [u64], q: asking::Job)
     requires { ⌜ Small (now tables) × (n ≤ length (now covers)) × (q .train < 8) × (q .minute < 720) ⌝ }
     ensures { λ _. ⌜ now (weights .exit) ≡ arrivedOf (now (tables .entry)) q (take n (now (covers .entry))) (now (weights .entry)) ⌝ }
 {

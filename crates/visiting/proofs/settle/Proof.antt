@@ -1,9 +1,9 @@
 -- `visiting::settle` meets its contract: its steps are those of `settledOf`, and none changes the length. Assumes nothing.
-use mathlib.Core.Path.{ap, _∙_}
+use mathlib.Core.Path.{_∙_}
 use Prim.Native.Nat.{_+_, _*_}
 use native.Mathlib.Omega.{arith}
-use lib.ListN.{length, set, length-set}
-use Rattle.visiting.specs.Settling.{wake-length, toldAll-length, show-length, settled-steps}
+use lib.ListN.{length-set}
+use Rattle.visiting.specs.Settling.{settled-steps}
 use borrow.Author.Needs.{needs}
 use Rattle.visiting.proofs.settle.Statement.{statement}
 use Rattle.visiting.proofs.settle.Tie as tie
@@ -29,19 +29,30 @@ wake-due-requires : tie.Need-wake-due-requires
 wake-due-requires c κs = search needs
 
 tell-all-requires : tie.Need-tell-all-requires
-tell-all-requires c κs = (ap length (c .before .before .before .wake-due .ensures) ∙ wake-length (c .before .before .before .before .before .before .before .before .before .args .tables .now) (c .before .before .before .before .before .before .before .before .before .args .q .minute) (c .before .before .before .before .before .before .before .before .before .args .q .stands) (c .before .before .before .before .before .before .before .before .before .args .moved) (set (c .before .before .before .before .before .before .before .before .before .args .notes .now) (c .before .before .before .before .before .before .before .before .before .args .q .train * 128 + c .before .before .before .before .before .before .before .before .before .args .q .place) 0) ∙ length-set (c .before .before .before .before .before .before .before .before .before .args .notes .now) (c .before .before .before .before .before .before .before .before .before .args .q .train * 128 + c .before .before .before .before .before .before .before .before .before .args .q .place) 0 ∙ c .before .before .before .before .before .before .before .before .before .pre .0 .long, omega arith)
+tell-all-requires c κs =
+    let s = c .before .before .before .before .before .before .before .before .before in
+    (omega (arith, length-set (s .args .notes .now) (s .args .q .train * 128 + s .args .q .place) 0, s .pre .0 .long), omega arith)
 
 show-requires : tie.Need-show-requires
-show-requires c κs = ap length (c .before .before .before .tell-all .ensures) ∙ toldAll-length 8 _ (c .before .before .before .before .before .before .before .before .before .before .before .before .before .args .from) (c .before .before .before .before .before .before .before .before .before .before .before .before .before .args .moved) ∙ ap length (c .before .before .before .before .before .before .before .wake-due .ensures) ∙ wake-length (c .before .before .before .before .before .before .before .before .before .before .before .before .before .args .tables .now) (c .before .before .before .before .before .before .before .before .before .before .before .before .before .args .q .minute) (c .before .before .before .before .before .before .before .before .before .before .before .before .before .args .q .stands) (c .before .before .before .before .before .before .before .before .before .before .before .before .before .args .moved) (set (c .before .before .before .before .before .before .before .before .before .before .before .before .before .args .notes .now) (c .before .before .before .before .before .before .before .before .before .before .before .before .before .args .q .train * 128 + c .before .before .before .before .before .before .before .before .before .before .before .before .before .args .q .place) 0) ∙ length-set (c .before .before .before .before .before .before .before .before .before .before .before .before .before .args .notes .now) (c .before .before .before .before .before .before .before .before .before .before .before .before .before .args .q .train * 128 + c .before .before .before .before .before .before .before .before .before .before .before .before .before .args .q .place) 0 ∙ c .before .before .before .before .before .before .before .before .before .before .before .before .before .pre .0 .long
+show-requires c κs =
+    let s = c .before .before .before .before .before .before .before .before .before .before .before .before .before in
+    omega (arith, length-set (s .args .notes .now) (s .args .q .train * 128 + s .args .q .place) 0, s .pre .0 .long)
 
 show-requires-2 : tie.Need-show-requires-2
-show-requires-2 c κs = ap length (c .before .before .before .show .ensures) ∙ show-length _ (c .before .before .before .before .before .before .before .before .before .before .before .before .before .before .before .before .before .args .q .stands) ∙ ap length (c .before .before .before .before .before .before .before .tell-all .ensures) ∙ toldAll-length 8 _ (c .before .before .before .before .before .before .before .before .before .before .before .before .before .before .before .before .before .args .from) (c .before .before .before .before .before .before .before .before .before .before .before .before .before .before .before .before .before .args .moved) ∙ ap length (c .before .before .before .before .before .before .before .before .before .before .before .wake-due .ensures) ∙ wake-length (c .before .before .before .before .before .before .before .before .before .before .before .before .before .before .before .before .before .args .tables .now) (c .before .before .before .before .before .before .before .before .before .before .before .before .before .before .before .before .before .args .q .minute) (c .before .before .before .before .before .before .before .before .before .before .before .before .before .before .before .before .before .args .q .stands) (c .before .before .before .before .before .before .before .before .before .before .before .before .before .before .before .before .before .args .moved) (set (c .before .before .before .before .before .before .before .before .before .before .before .before .before .before .before .before .before .args .notes .now) (c .before .before .before .before .before .before .before .before .before .before .before .before .before .before .before .before .before .args .q .train * 128 + c .before .before .before .before .before .before .before .before .before .before .before .before .before .before .before .before .before .args .q .place) 0) ∙ length-set (c .before .before .before .before .before .before .before .before .before .before .before .before .before .before .before .before .before .args .notes .now) (c .before .before .before .before .before .before .before .before .before .before .before .before .before .before .before .before .before .args .q .train * 128 + c .before .before .before .before .before .before .before .before .before .before .before .before .before .before .before .before .before .args .q .place) 0 ∙ c .before .before .before .before .before .before .before .before .before .before .before .before .before .before .before .before .before .pre .0 .long
+show-requires-2 c κs =
+    let s = c .before .before .before .before .before .before .before .before .before .before .before .before .before .before .before .before .before in
+    omega (arith, length-set (s .args .notes .now) (s .args .q .train * 128 + s .args .q .place) 0, s .pre .0 .long)
 
 same-length : tie.Need-same-length
-same-length c = ap length (c .before .before .show2 .ensures) ∙ show-length _ (c .before .before .before .before .before .before .before .before .before .before .before .before .before .before .before .before .before .before .before .before .args .q .blocks) ∙ ap length (c .before .before .before .before .before .before .show .ensures) ∙ show-length _ (c .before .before .before .before .before .before .before .before .before .before .before .before .before .before .before .before .before .before .before .before .args .q .stands) ∙ ap length (c .before .before .before .before .before .before .before .before .before .before .tell-all .ensures) ∙ toldAll-length 8 _ (c .before .before .before .before .before .before .before .before .before .before .before .before .before .before .before .before .before .before .before .before .args .from) (c .before .before .before .before .before .before .before .before .before .before .before .before .before .before .before .before .before .before .before .before .args .moved) ∙ ap length (c .before .before .before .before .before .before .before .before .before .before .before .before .before .before .wake-due .ensures) ∙ wake-length (c .before .before .before .before .before .before .before .before .before .before .before .before .before .before .before .before .before .before .before .before .args .tables .now) (c .before .before .before .before .before .before .before .before .before .before .before .before .before .before .before .before .before .before .before .before .args .q .minute) (c .before .before .before .before .before .before .before .before .before .before .before .before .before .before .before .before .before .before .before .before .args .q .stands) (c .before .before .before .before .before .before .before .before .before .before .before .before .before .before .before .before .before .before .before .before .args .moved) (set (c .before .before .before .before .before .before .before .before .before .before .before .before .before .before .before .before .before .before .before .before .args .notes .now) (c .before .before .before .before .before .before .before .before .before .before .before .before .before .before .before .before .before .before .before .before .args .q .train * 128 + c .before .before .before .before .before .before .before .before .before .before .before .before .before .before .before .before .before .before .before .before .args .q .place) 0) ∙ length-set (c .before .before .before .before .before .before .before .before .before .before .before .before .before .before .before .before .before .before .before .before .args .notes .now) (c .before .before .before .before .before .before .before .before .before .before .before .before .before .before .before .before .before .before .before .before .args .q .train * 128 + c .before .before .before .before .before .before .before .before .before .before .before .before .before .before .before .before .before .before .before .before .args .q .place) 0
+same-length c =
+    let s = c .before .before .before .before .before .before .before .before .before .before .before .before .before .before .before .before .before .before .before .before in
+    omega (arith, length-set (s .args .notes .now) (s .args .q .train * 128 + s .args .q .place) 0)
 
 returns : tie.Need-returns
-returns c = c .before .before .show2 .ensures ∙ settled-steps (c .before .before .before .before .before .before .before .before .before .before .before .before .before .before .before .before .before .before .before .before .args .tables .now) (c .before .before .before .before .before .before .before .before .before .before .before .before .before .before .before .before .before .before .before .before .args .q) (c .before .before .before .before .before .before .before .before .before .before .before .before .before .before .before .before .before .before .before .before .args .from) (c .before .before .before .before .before .before .before .before .before .before .before .before .before .before .before .before .before .before .before .before .args .moved) (c .before .before .before .before .before .before .before .before .before .before .before .before .before .before .before .before .before .before .before .before .args .notes .now) _ _ _ (c .before .before .before .before .before .before .before .before .before .before .before .before .before .before .wake-due .ensures) (c .before .before .before .before .before .before .before .before .before .before .tell-all .ensures) (c .before .before .before .before .before .before .show .ensures)
+returns c =
+    let s = c .before .before .before .before .before .before .before .before .before .before .before .before .before .before .before .before .before .before .before .before .args in
+    c .before .before .show2 .ensures
+    ∙ settled-steps (s .tables .now) (s .q) (s .from) (s .moved) (s .notes .now) _ _ _ (c .before .before .before .before .before .before .before .before .before .before .before .before .before .before .wake-due .ensures) (c .before .before .before .before .before .before .before .before .before .before .tell-all .ensures) (c .before .before .before .before .before .before .show .ensures)
 
 pub settle-spec : {M : Type 1} → statement M
 settle-spec =
