@@ -39,8 +39,9 @@ at-requires c κs = search needs
 add-sum : tie.Need-add-sum Inv-loop μ-loop
 add-sum c =
     let s = c .before .before .before .before .before .args in
+    let p = c .before .before .before .before .before .pre in
     let l = c .before .before .before .loop in
-    omega (arith, c .at .ensures, c .before .before .before .before .before .pre .0 .weights (s .j) (s .x) (omega arith), set-taken (s .tables .now) (l .i) (120 + s .j * 8 - l .i) (l .left) (omega arith) (c .before .if1 .taken))
+    omega (arith, c .at .ensures, p .0 .weights (s .j) (s .x) (omega arith), p .0 .words (l .i), l .inv .3)
 
 add-i-2 : tie.Need-add-i-2 Inv-loop μ-loop
 add-i-2 c = search needs
