@@ -7,14 +7,11 @@ use out_figures::Figures;
 use out_figures::Punctuality;
 ghost use mathlib.Core.Path.{_≡_};
 ghost use mathlib.Core.List.{[]};
-ghost use Prim.Native.Nat.{_+_, _*_, _≤_, _<_};
-ghost use lib.ListN.{length, getD, replicate};
+ghost use Prim.Native.Nat.{_≤_};
+ghost use lib.ListN.{length, replicate};
 ghost use Rattle.rules.specs.Refusals.Result.{answer};
 ghost use Rattle.rules.specs.Files as rulesFiles;
 ghost use Rattle.rules.specs.Calls.{filled, singleRun, runCall, listingCall, figuresCall};
-ghost use Rattle.weigh.specs.Weigh.{Small};
-ghost use Rattle.visiting.specs.Visit.{Ways};
-ghost use Rattle.entries.specs.Answer.{Answers};
 ghost use Rattle.out_figures.specs.Answers as told;
 ghost use Rattle.desk.specs.Answers.{refusedWith, answered, answerOf, singleAnswer, trainFigures, figuresOf, lentTwo, lentThree, Gives, GivesText};
 ghost use Rattle.desk.specs.Steps.{Fits, Begins, Start, runOf, Tells, filesAnswer, Ran, Filled, Laid, Printable, Printed, Measurable, Measured};
@@ -98,29 +95,6 @@ fn fill(list: &[u64], n: usize, trains: usize, ws: &[u64], rows: &mut [u8], weig
     out_images::put_weights(ws, weights);
 }
 
-// The joint run on the tables, with room for its work: the number of words of its rows, or their length for refusal 12.
-fn run_on(tables: &[u64], rows: &mut [u64], ws: &mut [u64], stop: u64) -> usize
-    requires { ⌜ (length (now rows) ≡ getD (now tables) 3 0 * 2 + 2) × (length (now rows) ≤ 2050) × (stop < 720) × Small (now tables) × Ways (now tables) × (now ws ≡ replicate 5760 0) ⌝ }
-    ensures { λ r. ⌜ Answers (now (tables .entry)) stop (length (now (ws .entry))) r (now (rows .exit)) (now (ws .exit)) ⌝ }
-{
-    let mut tmp = [0u64; 2050];
-    let mut met = [0u64; 1025];
-    let mut held = [0u64; 1025];
-    let mut entering = [0u64; 1025];
-    let mut notes = [0u64; 6272];
-    joint::run(
-        rows,
-        &mut tmp,
-        tables,
-        &mut met,
-        &mut held,
-        &mut entering,
-        &mut notes,
-        ws,
-        stop,
-    )
-}
-
 // The joint run of an accepted case to a stop minute: the number of its entries, or 1,025 for refusal 12.
 fn run_to<'a>(
     case: &'a [u8],
@@ -138,7 +112,7 @@ fn run_to<'a>(
     file_plan::fill(case, book, s, tables);
     let room = words::at(tables, 3) as usize;
     let end = room * 2 + 2;
-    let w = run_on(tables, &mut list[..end], ws, stop as u64);
+    let w = joint::run(tables, &mut list[..end], ws, stop as u64);
     if w == end {
         return 1025;
     }

@@ -1,7 +1,7 @@
 // The joint run on rows of two words: minutes and the run to a stop minute, with the weights that arrive.
 ghost use mathlib.Core.Path.{_≡_};
-ghost use Prim.Native.Nat.{_+_, _<_};
-ghost use lib.ListN.{length, take, replicate};
+ghost use Prim.Native.Nat.{_+_, _*_, _≤_, _<_};
+ghost use lib.ListN.{length, take, getD, replicate};
 ghost use Rattle.rows.specs.Rows.{rowsOf};
 ghost use Rattle.weigh.specs.Weigh.{Small};
 ghost use Rattle.serving.specs.Pass.{Lent};
@@ -65,35 +65,28 @@ fn minutes(
     v
 }
 
-// The run from the first list through the minute `stop`, where nothing is noted and nothing has arrived: the number of words of its rows, or the length of
-// the lent rows for refusal 12.
-pub fn run(
-    rows: &mut [u64],
-    tmp: &mut [u64],
-    tables: &[u64],
-    met: &mut [u64],
-    held: &mut [u64],
-    entering: &mut [u64],
-    notes: &mut [u64],
-    weights: &mut [u64],
-    stop: u64,
-) -> usize
-    requires { ⌜ Lent (now tables) (now rows) (now tmp) (now met) (now held) (now entering) ⌝ }
-    requires { ⌜ (stop < 720) × Small (now tables) × Ways (now tables) ⌝ }
-    requires { ⌜ (now notes ≡ replicate 6272 0) × (now weights ≡ replicate (length (now weights)) 0) ⌝ }
+// The run from the first list through the minute `stop`, where nothing has arrived: the number of words of its rows, or the length of the lent rows for
+// refusal 12. What the run notes and works with is its own.
+pub fn run(tables: &[u64], rows: &mut [u64], weights: &mut [u64], stop: u64) -> usize
+    requires { ⌜ (length (now rows) ≡ getD (now tables) 3 0 * 2 + 2) × (length (now rows) ≤ 2050) × (stop < 720) × Small (now tables) × Ways (now tables) × (now weights ≡ replicate 5760 0) ⌝ }
     ensures { λ r. ⌜ Answers (now (tables .entry)) stop (length (now (weights .entry))) r (now (rows .exit)) (now (weights .exit)) ⌝ }
 {
+    let mut tmp = [0u64; 2050];
+    let mut met = [0u64; 1025];
+    let mut held = [0u64; 1025];
+    let mut entering = [0u64; 1025];
+    let mut notes = [0u64; 6272];
     let w = opening::begin(tables, rows);
-    clearing::enrol(rows, w / 2, notes);
+    clearing::enrol(rows, w / 2, &mut notes);
     minutes(
         rows,
         w,
-        tmp,
+        &mut tmp,
         tables,
-        met,
-        held,
-        entering,
-        notes,
+        &mut met,
+        &mut held,
+        &mut entering,
+        &mut notes,
         weights,
         stop,
     )
