@@ -1,6 +1,6 @@
 //! Drawn-up cases of one line in which one thing grows: delays, trains or minutes.
 
-use second::writer::{head, station, table, track, train};
+use inputs::writer::{head, station, table, track, train};
 
 /// What a case of a series has.
 #[derive(Clone, Copy)]

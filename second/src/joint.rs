@@ -1,8 +1,7 @@
 //! The joint run of all choices, entry by entry.
 
 use crate::cover::{cut, first_cover, weight, Cover, Cut};
-use crate::errors::{by_entries, cut_blocks, Error};
-use crate::plan::{Place, Plan};
+use crate::plan::{still_blocks, Place, Plan};
 use crate::refusal;
 use std::collections::BTreeMap;
 
@@ -70,7 +69,7 @@ impl JointRun {
     /// Visits one minute: old blocks go, then the elements are visited and their asking entries served.
     pub fn visit(&mut self, plan: &Plan, t: u32) -> Result<(), u8> {
         self.list
-            .retain(|entry| entry.kind == Kind::Stands || plan.still_blocks(entry.minute, t));
+            .retain(|entry| entry.kind == Kind::Stands || still_blocks(entry.minute, t));
         for element in plan.elements() {
             for asker in self.askers(plan, element, t) {
                 self.serve(plan, &asker, element, t)?;
@@ -102,9 +101,6 @@ impl JointRun {
             ..asker.clone()
         });
         self.list.splice(row..=row, waiting);
-        if plan.error == Some(Error::CuttingBlocks) {
-            cut_blocks(&mut self.list, asker, &entering);
-        }
         for cover in entering {
             self.enter(plan, asker, element, t, cover);
         }
@@ -152,10 +148,7 @@ impl JointRun {
             .filter(|entry| entry.train != asker.train && entry.place == element)
             .map(|entry| entry.cover.clone())
             .collect();
-        match plan.error {
-            Some(Error::CountingEntries) => by_entries(&asker.cover, capacity, to_meet.len()),
-            _ => cut(&asker.cover, capacity, &to_meet),
-        }
+        cut(&asker.cover, capacity, &to_meet)
     }
 
     /// The row of an asking entry; no two entries are alike, since one train's standing entries share no choice.

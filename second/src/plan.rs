@@ -1,6 +1,5 @@
 //! What both runs need of an accepted pair of files: places, the way of each train, capacities and planned lengths.
 
-use crate::errors::Error;
 use crate::reader::{read, Accepted, Case, Head, Table, Train};
 use crate::refusal::Refusal;
 
@@ -26,8 +25,6 @@ pub struct Plan {
     pub head: Head,
     pub case: Case,
     pub tables: Vec<Table>,
-    /// An error of the trade that a test builds in; a plan that was read has none.
-    pub error: Option<Error>,
     ways: Vec<Vec<Step>>,
 }
 
@@ -40,7 +37,6 @@ impl Plan {
             head,
             case,
             tables,
-            error: None,
             ways,
         })
     }
@@ -54,18 +50,7 @@ impl Plan {
     pub fn elements(&self) -> Vec<Place> {
         let stations = (0..self.case.stations.len()).map(Place::Station);
         let tracks = (0..self.case.tracks.len()).map(Place::Track);
-        match self.error {
-            Some(Error::TracksFirst) => tracks.chain(stations).chain([Place::Gone]).collect(),
-            _ => stations.chain(tracks).chain([Place::Gone]).collect(),
-        }
-    }
-
-    /// Whether a block with this end still stands in minute t: it goes when its end is before t.
-    pub fn still_blocks(&self, end: u32, t: u32) -> bool {
-        match self.error {
-            Some(Error::FreeingEarly) => end > t,
-            _ => end >= t,
-        }
+        stations.chain(tracks).chain([Place::Gone]).collect()
     }
 
     /// How many trains an element takes; the way out has no limit, and outside neither.
@@ -116,6 +101,11 @@ impl Plan {
     pub fn total(&self) -> u64 {
         100u64.pow(self.trains() as u32)
     }
+}
+
+/// Whether a block with this end still stands in minute t: it goes when its end is before t.
+pub fn still_blocks(end: u32, t: u32) -> bool {
+    end >= t
 }
 
 /// The way of a train: outside, then stations and tracks in turn, then gone.

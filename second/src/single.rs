@@ -1,6 +1,6 @@
 //! The single run of one choice of delays, minute by minute from 0 to T.
 
-use crate::plan::{Place, Plan};
+use crate::plan::{still_blocks, Place, Plan};
 
 /// Where a train stands and the minute it is due; a train gone keeps the minute it left.
 #[derive(Clone, Copy, Debug, PartialEq, Eq)]
@@ -57,7 +57,7 @@ fn start(plan: &Plan, choice: &[u8]) -> State {
 
 /// Visits one minute: old blocks go, then the elements are visited and their askers served.
 fn visit(plan: &Plan, state: &mut State, t: u32, arrivals: &mut [Option<u32>]) {
-    state.blocks.retain(|block| plan.still_blocks(block.end, t));
+    state.blocks.retain(|block| still_blocks(block.end, t));
     for element in plan.elements() {
         for train in askers(plan, state, element, t) {
             if has_room(plan, state, element) {

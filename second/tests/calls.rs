@@ -2,17 +2,15 @@
 
 #[path = "common/example.rs"]
 mod example;
-#[path = "common/listed.rs"]
-mod listed;
 
 use example::shift_example;
-use listed::listed;
+use inputs::answers::listed;
+use inputs::writer::{head, station, table, track, train};
 use second::calls::*;
 use second::figures::{Lateness, Punctuality, Shares};
 use second::joint::{Entry, Kind};
 use second::plan::Place;
 use second::refusal::Refusal;
-use second::writer::{head, station, table, track, train};
 
 /// A row that no call writes.
 fn marked() -> Row {

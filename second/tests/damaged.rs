@@ -1,12 +1,9 @@
 //! Damaged files made by hand: for each refusal 1 to 11 the expected number, file and place.
 
-#[path = "common/listed.rs"]
-mod listed;
-
-use listed::listed;
+use inputs::answers::listed;
+use inputs::writer::{field, head, station, table, track, train};
 use second::plan::Plan;
 use second::refusal::Refusal;
-use second::writer::{field, head, station, table, track, train};
 
 /// Asserts the refusal of a case with a book, by the reading and by the listing.
 fn refused(case: &[u8], book: &[u8], number: u8, file: u8, place: usize) {

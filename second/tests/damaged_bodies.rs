@@ -1,8 +1,8 @@
 //! Damaged bodies made by hand: refusals 6 to 11, and files with faults in several fields.
 
+use inputs::writer::{field, head, station, table, track, train};
 use second::plan::Plan;
 use second::refusal::Refusal;
-use second::writer::{field, head, station, table, track, train};
 
 /// Asserts the refusal of a case with a book.
 fn refused(case: &[u8], book: &[u8], number: u8, file: u8, place: usize) {

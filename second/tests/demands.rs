@@ -1,13 +1,13 @@
 //! Demands 2 and 3 on generated cases: the joint run against the enumeration of all choices by the single run.
 
+use inputs::generator::{sound, Chance, Files, Size};
+use inputs::trace::{held_counts, split_further};
 use second::cover::covers;
 use second::enumeration::{all_choices, arrivals};
-use second::generator::{sound, Chance, Files, Size};
 use second::joint::{Entry, JointRun, Kind};
 use second::plan::Plan;
 use second::refusal;
 use second::single::{self, Block, SingleRun, Standing, State};
-use second::trace::{held_counts, split_further};
 
 /// What was seen over many cases.
 #[derive(Debug, Default)]

@@ -16,12 +16,12 @@
 //!   its two results are compared one by one.
 //! - The drawings of the example are not in the text, so due minutes that only they show are not compared.
 
+use inputs::made::{example_2_2_5, TABLE_4_1};
+use inputs::writer::{head, station, table, track, train};
 use second::cover::covers;
-use second::inputs::{example_2_2_5, TABLE_4_1};
 use second::joint::{Entry, JointRun, Kind};
 use second::plan::{Place, Plan};
 use second::reader::{read_book, read_case};
-use second::writer::{head, station, table, track, train};
 
 /// The example as a case.
 fn example() -> Plan {

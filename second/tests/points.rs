@@ -2,11 +2,9 @@
 
 #[path = "common/example.rs"]
 mod example;
-#[path = "common/listed.rs"]
-mod listed;
 
 use example::shift_example;
-use listed::listed;
+use inputs::answers::listed;
 use second::calls::{run, single, ROWS, WEIGHTS};
 use second::joint::{Entry, Kind};
 use second::plan::Place;

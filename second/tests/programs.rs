@@ -1,15 +1,11 @@
-//! The programs `second` and `vectors` as they are started.
+//! The program `second` as it is started.
 
 #[path = "common/example.rs"]
 mod example;
-#[path = "common/listed.rs"]
-mod listed;
 
 use example::shift_example;
-use listed::listed;
-use second::inputs::{made, FIXED_SEEDS, OF_A_SEED};
-use second::vectors::of_seed;
-use second::writer::{from_hex, table, to_hex};
+use inputs::answers::listed;
+use inputs::writer::table;
 use std::path::PathBuf;
 use std::process::Command;
 
@@ -62,69 +58,4 @@ fn second_hands_on_4_096_bytes_at_most() {
     let case = shift_example();
     let long = [case, vec![7; 10_000]].concat();
     assert_eq!(printed("long", &long, None), "refused 2 0 60\n");
-}
-
-/// The lines that `vectors` prints.
-fn vectors(seed: &str, count: &str) -> Vec<String> {
-    lines_of(env!("CARGO_BIN_EXE_vectors"), &[seed, count])
-}
-
-/// The lines that a program prints.
-fn lines_of(program: &str, words: &[&str]) -> Vec<String> {
-    let output = Command::new(program)
-        .args(words)
-        .output()
-        .expect("the program starts");
-    assert!(output.status.success());
-    let text = String::from_utf8(output.stdout).expect("plain text");
-    text.lines().map(str::to_string).collect()
-}
-
-#[test]
-fn vectors_have_their_form_and_are_the_same_for_the_same_seed() {
-    let lines = vectors("1", "300");
-    assert_eq!(lines, vectors("1", "300"));
-    assert_ne!(lines, vectors("2", "300"));
-    let mut inputs = 0;
-    for line in &lines {
-        let fields: Vec<&str> = line.split('|').collect();
-        let refused = fields[fields.len() - 1].starts_with("refused ");
-        let expected = match (fields[0], refused) {
-            ("reading", false) => 6,
-            ("accepted", false) => 3,
-            ("single", _) => 6,
-            ("run", true) => 5,
-            ("run", false) => 7,
-            ("listing", _) => 4,
-            ("figures", true) => 6,
-            ("figures", false) => 13,
-            other => panic!("{other:?}"),
-        };
-        assert_eq!(fields.len(), expected, "{line}");
-        assert_eq!(to_hex(&from_hex(fields[1])), fields[1]);
-        assert_eq!(to_hex(&from_hex(fields[2])), fields[2]);
-        inputs += usize::from(fields[0] == "reading" || fields[0] == "accepted");
-    }
-    assert_eq!(inputs, 300);
-}
-
-#[test]
-fn exports_prints_the_vectors_of_a_seed_and_without_one_the_fixed_ones() {
-    let exports = env!("CARGO_BIN_EXE_exports");
-    assert_eq!(lines_of(exports, &["7"]), of_seed(7));
-    assert_ne!(of_seed(7), of_seed(8));
-    let fixed = lines_of(exports, &[]);
-    let of_made = fixed.len()
-        - (1..=FIXED_SEEDS)
-            .map(|seed| of_seed(seed).len())
-            .sum::<usize>();
-    assert_eq!(fixed[of_made..of_made + of_seed(1).len()], of_seed(1));
-    let inputs = |lines: &[String]| {
-        let starts = lines
-            .iter()
-            .filter(|line| line.starts_with("reading|") || line.starts_with("accepted|"));
-        starts.count()
-    };
-    assert_eq!(inputs(&fixed[..of_made]), made().len());
-    assert_eq!(inputs(&fixed[of_made..]), FIXED_SEEDS as usize * OF_A_SEED);
 }

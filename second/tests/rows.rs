@@ -4,10 +4,10 @@
 mod example;
 
 use example::shift_example;
+use inputs::writer::{head, station, table, track, train};
 use second::joint;
 use second::plan::Plan;
 use second::rows::row_text;
-use second::writer::{head, station, table, track, train};
 
 /// The rows after a minute as text.
 fn rows(case: &[u8], minute: u32) -> Vec<String> {

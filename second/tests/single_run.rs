@@ -1,8 +1,8 @@
 //! Single runs worked out by hand: stops of no length, ends of blocks, priorities and capacities.
 
+use inputs::writer::{head, station, table, track, train};
 use second::plan::{Place, Plan};
 use second::single::{run, Block, Standing};
-use second::writer::{head, station, table, track, train};
 
 /// A case with two stations and one track of this capacity, a safety time, and trains of one delay of 0.
 fn line(safety: u8, capacity: u8, trains: &[Vec<u8>]) -> Plan {

@@ -1,7 +1,7 @@
 //! The field viewer: it gives one field after another and judges no tag and no length.
 
+use inputs::writer::{field, station};
 use second::viewer::{Field, View, Viewer};
-use second::writer::{field, station};
 
 /// What the viewer gives for a field.
 fn seen(offset: usize, tag: u8, body: &[u8]) -> View<'_> {

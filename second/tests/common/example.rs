@@ -1,6 +1,6 @@
 //! The shift example of 01.
 
-use second::writer::from_hex;
+use inputs::writer::from_hex;
 
 /// The case of the shift example.
 pub fn shift_example() -> Vec<u8> {

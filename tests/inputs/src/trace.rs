@@ -1,7 +1,7 @@
 //! What a joint run has been through, seen from its lists minute by minute: how often held entries were split, and at which counts pieces were held.
 
-use crate::joint::{Entry, JointRun, Kind};
-use crate::plan::{Place, Plan};
+use second::joint::{Entry, JointRun, Kind};
+use second::plan::{Place, Plan};
 
 /// A held entry that was split: the generation of what is left of it, 1 after the first split.
 pub type Generation = usize;

@@ -4,11 +4,11 @@
 //! tag at the place. A pair is the case's length (2), the book's length (2), the case and the book.
 //! `pairs` alone reads such pairs and prints a line for each: `accepted`, or the refusal's number, file and place.
 
-use second::damage::damaged;
-use second::generator::{sound, Chance, Size};
+use inputs::damage::damaged;
+use inputs::generator::{sound, Chance, Size};
+use inputs::writer::{head, station, table, track, train};
 use second::plan::Plan;
 use second::refusal::Refusal;
-use second::writer::{head, station, table, track, train};
 use std::collections::HashMap;
 use std::io::{self, Read, Write};
 use std::process::ExitCode;
@@ -75,7 +75,7 @@ fn kind((case, book): &Pair) -> (u16, u16, u8) {
             place,
         }) => {
             let of = if file == 0 { case } else { book };
-            let tag = of.get(place as usize).copied().unwrap_or(7).min(7);
+            let tag = of.get(place).copied().unwrap_or(7).min(7);
             (number.into(), file.into(), tag)
         }
     }

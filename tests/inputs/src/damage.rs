@@ -1,8 +1,8 @@
 //! Damaging files: byte changes, cuts, changed lengths, and fields dropped, repeated, swapped or heaped up.
 
 use crate::generator::{Chance, Files};
-use crate::reader::TABLE_TAG;
-use crate::viewer::{View, Viewer};
+use second::reader::TABLE_TAG;
+use second::viewer::{View, Viewer};
 
 /// Damages the case or, less often, the book, once or twice.
 pub fn damaged(chance: &mut Chance, files: &Files) -> Files {

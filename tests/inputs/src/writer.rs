@@ -1,6 +1,6 @@
 //! Writing the fields of a case or a book, and bytes as hexadecimal text.
 
-use crate::reader::{HEAD_TAG, STATION_TAG, TABLE_TAG, TRACK_TAG, TRAIN_TAG};
+use second::reader::{HEAD_TAG, STATION_TAG, TABLE_TAG, TRACK_TAG, TRAIN_TAG};
 
 /// A field: one byte tag, two bytes length, body.
 pub fn field(tag: u8, body: &[u8]) -> Vec<u8> {

@@ -1,22 +1,17 @@
 //! The errors this trade makes (01): each example of examples/errors/ has its listing, and with the error built in another one.
 
-#[path = "common/listed.rs"]
-mod listed;
-
-use listed::listed;
+use inputs::answers::listed;
+use inputs::writer::from_hex;
 use second::enumeration::arrivals;
-use second::errors::Error;
 use second::joint;
-use second::listing::listing;
 use second::plan::Plan;
-use second::writer::from_hex;
 use std::collections::BTreeMap;
 use std::fs;
 use std::path::Path;
 
 /// The bytes of a file of examples/.
 fn example(name: &str) -> Vec<u8> {
-    let folder = Path::new(env!("CARGO_MANIFEST_DIR")).join("../examples");
+    let folder = Path::new(env!("CARGO_MANIFEST_DIR")).join("../../examples");
     fs::read(folder.join(name)).expect("a file of examples/")
 }
 
@@ -31,42 +26,54 @@ fn case_of(name: &str) -> Vec<u8> {
     case
 }
 
-/// The lines of one train in the listing of an example with an error built in.
-fn with_error(name: &str, error: Error, train: usize) -> Vec<String> {
-    let mut plan = Plan::read(&case_of(name), &[]).expect("accepted");
-    plan.error = Some(error);
-    let joint = joint::run(&plan, plan.head.last_minute).expect("room enough");
-    let text = String::from_utf8(listing(&plan, &joint)).expect("plain text");
-    assert_ne!(text.as_bytes(), example(&format!("{name}.listing")));
+/// The listing of a case by the program with an error.
+macro_rules! listing_with {
+    ($error:ident, $case:expr) => {{
+        let plan = errors::$error::plan::Plan::read(&$case, &[]).expect("accepted");
+        let last = plan.head.last_minute;
+        let joint = errors::$error::joint::run(&plan, last).expect("room enough");
+        errors::$error::listing::listing(&plan, &joint)
+    }};
+}
+
+/// Asserts that an example's listing with an error is another one, and has these lines of a train.
+fn differs(name: &str, wrong: Vec<u8>, train: usize, lines: &[&str]) {
+    assert_ne!(wrong, example(&format!("{name}.listing")));
+    let text = String::from_utf8(wrong).expect("plain text");
     let of_train = format!("{train} ");
-    text.lines()
+    let of_train: Vec<&str> = text
+        .lines()
         .filter(|line| line.starts_with(&of_train))
-        .map(str::to_string)
-        .collect()
+        .collect();
+    assert_eq!(of_train, lines);
 }
 
 #[test]
 fn entries_counted_instead_of_trains_hold_a_train_that_may_enter() {
-    let wrong = with_error("errors/counting-entries", Error::CountingEntries, 1);
-    assert_eq!(wrong, ["1 14 10000", "1 - 0"]);
+    let name = "errors/counting-entries";
+    let wrong = listing_with!(counting_entries, case_of(name));
+    differs(name, wrong, 1, &["1 14 10000", "1 - 0"]);
 }
 
 #[test]
 fn tracks_visited_first_make_a_stop_of_no_length_a_minute_long() {
-    let wrong = with_error("errors/tracks-first", Error::TracksFirst, 0);
-    assert_eq!(wrong, ["0 10 100", "0 - 0"]);
+    let name = "errors/tracks-first";
+    let wrong = listing_with!(tracks_first, case_of(name));
+    differs(name, wrong, 0, &["0 10 100", "0 - 0"]);
 }
 
 #[test]
 fn a_block_that_is_cut_lets_a_train_in_too_early() {
-    let wrong = with_error("errors/cutting-blocks", Error::CuttingBlocks, 2);
-    assert_eq!(wrong, ["2 9 400000", "2 13 600000", "2 - 0"]);
+    let name = "errors/cutting-blocks";
+    let wrong = listing_with!(cutting_blocks, case_of(name));
+    differs(name, wrong, 2, &["2 9 400000", "2 13 600000", "2 - 0"]);
 }
 
 #[test]
 fn an_element_freed_in_the_last_minute_of_its_block_is_entered_a_minute_early() {
-    let wrong = with_error("errors/freeing-early", Error::FreeingEarly, 1);
-    assert_eq!(wrong, ["1 8 7000", "1 10 3000", "1 - 0"]);
+    let name = "errors/freeing-early";
+    let wrong = listing_with!(freeing_early, case_of(name));
+    differs(name, wrong, 1, &["1 8 7000", "1 10 3000", "1 - 0"]);
 }
 
 /// The weight of each minute of arrival.

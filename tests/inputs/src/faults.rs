@@ -1,9 +1,9 @@
 //! Every fault that one field has, whatever the reading says of it: so that it can be counted which faults, and which two in one field, the
 //! inputs have reached.
 
-use crate::bodies::*;
-use crate::reader::*;
-use crate::refusal;
+use second::bodies::*;
+use second::reader::*;
+use second::refusal;
 use Fault::*;
 
 /// The faults, as a type and as a list, in one order.

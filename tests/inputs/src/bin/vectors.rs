@@ -1,9 +1,9 @@
 //! The program `vectors SEED COUNT`: prints the answers of the second program to COUNT small inputs drawn from SEED, one vector a line.
 
-use second::damage::damaged;
-use second::generator::{sound, Chance, Files};
-use second::inputs::SMALL;
-use second::vectors::few;
+use inputs::damage::damaged;
+use inputs::drawn::SMALL;
+use inputs::generator::{sound, Chance, Files};
+use inputs::vectors::vectors;
 use std::io::{self, Write};
 use std::process::ExitCode;
 
@@ -20,7 +20,7 @@ fn main() -> ExitCode {
     let mut lines = String::new();
     for _ in 0..*count {
         let files = draw(&mut chance);
-        for line in few(&mut chance, &files) {
+        for line in vectors(&mut chance, &files) {
             lines.push_str(&line);
             lines.push('\n');
         }

@@ -2,8 +2,8 @@
 
 use crate::faults::{in_book, in_case, Fault, Fault::*, ALL};
 use crate::generator::Files;
-use crate::reader::*;
 use crate::writer::{field, head, station, table, track, train};
+use second::reader::*;
 
 /// A station number that no case has.
 const UNKNOWN: u8 = 200;

@@ -1,11 +1,8 @@
 //! Drawn damage meets every refusal of the reading, and the calls answer alike on it.
 
-#[path = "common/listed.rs"]
-mod listed;
-
-use listed::listed;
-use second::damage::damaged;
-use second::generator::{sound, Chance, Files, Size};
+use inputs::answers::listed;
+use inputs::damage::damaged;
+use inputs::generator::{sound, Chance, Files, Size};
 use second::plan::Plan;
 use second::refusal::{Refusal, ROOM};
 
