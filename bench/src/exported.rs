@@ -1,30 +1,6 @@
-//! The exported run, called as C calls it.
+//! The exported run with the memory that it is lent.
 
-/// Bytes that the run must be lent for rows and for weights.
-const ROWS: usize = 16_384;
-const WEIGHTS: usize = 40_320;
-
-#[repr(C)]
-struct Answer {
-    refusal: u16,
-    file: u16,
-    place: u32,
-    value: u64,
-}
-
-extern "C" {
-    fn lampreysong_run(
-        case: *const u8,
-        case_length: usize,
-        book: *const u8,
-        book_length: usize,
-        stop: u64,
-        rows: *mut u8,
-        rows_length: usize,
-        weights: *mut u8,
-        weights_length: usize,
-    ) -> Answer;
-}
+use exports::{ROWS, WEIGHTS};
 
 /// Lent memory, and what the last run left in it.
 pub struct Desk {
@@ -42,20 +18,8 @@ impl Desk {
 
     /// The run to a stop minute: the number of entries, or the refusal's number.
     pub fn run(&mut self, case: &[u8], book: &[u8], stop: u32) -> Result<usize, u16> {
-        // SAFETY: each pointer comes with the length of its own slice, and the slices outlive the call.
-        let answer = unsafe {
-            lampreysong_run(
-                case.as_ptr(),
-                case.len(),
-                book.as_ptr(),
-                book.len(),
-                u64::from(stop),
-                self.rows.as_mut_ptr(),
-                self.rows.len(),
-                self.weights.as_mut_ptr(),
-                self.weights.len(),
-            )
-        };
+        let (rows, weights) = (&mut self.rows, &mut self.weights);
+        let answer = exports::run(case, book, stop.into(), rows, weights);
         match answer.refusal {
             0 => Ok(answer.value as usize),
             number => Err(number),

@@ -6,7 +6,9 @@ use crate::generator::{crowded, sound, Chance, Files, Size};
 /// How many inputs are drawn from one seed.
 pub const OF_A_SEED: usize = 50;
 /// The seeds of the fixed comparison: 1 up to this one.
-pub const FIXED_SEEDS: u64 = 24;
+pub const FIXED_SEEDS: u64 = 120;
+/// Of these, the seeds whose inputs are counted by what they reach: 1 up to this one.
+pub const COUNTED_SEEDS: u64 = 24;
 /// The most trains that an asking train can meet on an element, and so the highest count at which a piece can be held.
 pub const MOST_MET: usize = 6;
 

@@ -1,6 +1,6 @@
 //! The calls that are asked of an input, and how much memory is lent to each.
 
-use crate::drawn::{drawn, FIXED_SEEDS};
+use crate::drawn::{drawn, COUNTED_SEEDS, FIXED_SEEDS};
 use crate::generator::{Chance, Files};
 use crate::made::made;
 use second::plan::Plan;
@@ -171,7 +171,16 @@ pub fn of_made() -> Vec<Asked> {
 
 /// The fixed questions for the exports: of the inputs made for a purpose, then of the fixed seeds.
 pub fn fixed() -> Vec<Asked> {
-    let seeds = (1..=FIXED_SEEDS).flat_map(of_seed);
+    up_to(FIXED_SEEDS)
+}
+
+/// The first of the fixed questions, of which it is counted what they reach.
+pub fn counted() -> Vec<Asked> {
+    up_to(COUNTED_SEEDS)
+}
+
+fn up_to(seed: u64) -> Vec<Asked> {
+    let seeds = (1..=seed).flat_map(of_seed);
     of_made().into_iter().chain(seeds).collect()
 }
 

@@ -1,8 +1,8 @@
 //! The program `vectors` as it is started, and the questions that are fixed.
 
-use inputs::drawn::{FIXED_SEEDS, OF_A_SEED};
+use inputs::drawn::{COUNTED_SEEDS, FIXED_SEEDS, OF_A_SEED};
 use inputs::made::made;
-use inputs::questions::{fixed, of_made, of_seed, Asked};
+use inputs::questions::{counted, fixed, of_made, of_seed, Asked};
 use inputs::writer::{from_hex, to_hex};
 use std::process::Command;
 
@@ -59,6 +59,8 @@ fn the_fixed_questions_are_those_of_the_made_inputs_and_of_the_first_seeds() {
         &fixed[fixed.len() - OF_A_SEED..],
         &of_seed(FIXED_SEEDS)
     ));
+    let first = made + COUNTED_SEEDS as usize * OF_A_SEED;
+    assert!(same(&fixed[..first], &counted()));
     assert!(!same(&of_seed(7), &of_seed(8)));
     assert!(fixed.iter().all(|asked| asked.questions.len() >= 6));
 }

@@ -3,7 +3,7 @@
 use crate::counts::Counts;
 use inputs::answers::{answer, Value};
 use inputs::generator::Files;
-use inputs::questions::{fixed, Call, Memory, Question, MEMORIES};
+use inputs::questions::{counted, Call, Memory, Question, MEMORIES};
 use second::figures::Punctuality;
 use second::joint;
 use second::plan::Plan;
@@ -12,7 +12,7 @@ use second::refusal::*;
 #[test]
 fn calls_reach_each_refusal_of_their_arguments_and_memory() {
     let mut counts = Counts::default();
-    for asked in fixed() {
+    for asked in counted() {
         let plan = Plan::read(&asked.files.case, &asked.files.book).ok();
         for question in &asked.questions {
             for name in kinds(&asked.files, plan.as_ref(), question) {

@@ -4,7 +4,7 @@ use crate::counts::Counts;
 use crate::kinds::*;
 use inputs::faults::{in_book, in_case, Fault};
 use inputs::generator::Files;
-use inputs::questions::fixed;
+use inputs::questions::counted;
 use second::plan::Plan;
 use second::reader::*;
 use second::refusal::*;
@@ -45,7 +45,7 @@ fn add_faults(met: &mut Met, seat: Seat, faults: &[Fault]) {
 fn every_fault_and_every_two_that_can_meet_in_one_field_are_reached() {
     let mut met = Met::new();
     let mut counts = Counts::default();
-    for Files { case, book } in fixed().into_iter().map(|asked| asked.files) {
+    for Files { case, book } in counted().into_iter().map(|asked| asked.files) {
         match Plan::read(&case, &book) {
             Ok(_) => {}
             Err(refusal) if refusal.number == NO_TABLE => {

@@ -1,4 +1,4 @@
-//! What the fixed inputs reach, on which the exported functions are compared: each kind of refusal in each field it can stand in, each two faults that
+//! What the first of the fixed inputs reach, on which the exported functions are compared: each kind of refusal in each field it can stand in, each two faults that
 //! can meet in one field, held entries split again and again, pieces held at each count, and each refusal of a call. No count may be zero.
 
 mod calls;

@@ -2,14 +2,14 @@
 
 use crate::counts::Counts;
 use inputs::drawn::MOST_MET;
-use inputs::questions::fixed;
+use inputs::questions::counted;
 use inputs::trace::trace;
 use second::plan::Plan;
 
 #[test]
 fn runs_split_held_entries_again_and_hold_pieces_at_every_count() {
     let mut counts = Counts::default();
-    for files in fixed().iter().map(|asked| &asked.files) {
+    for files in counted().iter().map(|asked| &asked.files) {
         if let Ok(plan) = Plan::read(&files.case, &files.book) {
             count_run(&mut counts, &plan);
         }

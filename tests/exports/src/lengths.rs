@@ -1,0 +1,124 @@
+//! Lent memory of every length: too short it stays as it was, and of longer memory only the required part changes.
+
+use crate::called::{bits, Exports, Linked};
+use crate::compare::figures_refused;
+use crate::example::shift;
+use crate::memory::Lent;
+use crate::tally::Tally;
+use exports::Answer;
+use inputs::generator::Files;
+use inputs::questions::{Call, Memory, MEMORIES};
+use second::refusal::{COUNT, MEMORY, NO_TRAIN, ROOM, STOP};
+
+/// A call on some files, and the number of the refusal that it gets with memory enough, 0 for none.
+struct Case {
+    what: &'static str,
+    files: Files,
+    call: Call,
+    refusal: u8,
+}
+
+/// Puts every call to memory of every length, answered and refused.
+pub fn every_length(tally: &mut Tally) {
+    for case in cases() {
+        for memory in case.call.memories() {
+            for length in lengths(memory.required()) {
+                let holds = holds(&case, *memory, length);
+                let what = case.what;
+                tally.expect(holds, || format!("{what}, {length} bytes of {memory:?}"));
+            }
+        }
+    }
+}
+
+/// Lengths from nothing to more than is required: all near the ends, some between.
+fn lengths(required: usize) -> Vec<usize> {
+    let between = (20..required - 20).step_by(997);
+    (0..20)
+        .chain(between)
+        .chain(required - 20..required + 40)
+        .collect()
+}
+
+/// Answered and refused: by the files, by the arguments, by the room.
+fn cases() -> Vec<Case> {
+    let case = |what, files, call, refusal| Case {
+        what,
+        files,
+        call,
+        refusal,
+    };
+    let (stop, train, limit) = (20, 1, 0);
+    let run = Call::Run { stop };
+    let figures = Call::Figures { train, limit };
+    let (empty, small) = (
+        || shift(|case| case.clear()),
+        || shift(|case| case[6..8].copy_from_slice(&[0, 8])),
+    );
+    let whole = || shift(|_| {});
+    vec![
+        case("run: answered", whole(), run.clone(), 0),
+        case("run: refused 5", empty(), run.clone(), COUNT),
+        case("run: refused 17", whole(), Call::Run { stop: 21 }, STOP),
+        case("run: refused 12", small(), run, ROOM),
+        case("listing: answered", whole(), Call::Listing, 0),
+        case("listing: refused 5", empty(), Call::Listing, COUNT),
+        case("listing: refused 12", small(), Call::Listing, ROOM),
+        case("figures: answered", whole(), figures.clone(), 0),
+        case("figures: refused 5", empty(), figures.clone(), COUNT),
+        case(
+            "figures: refused 16",
+            whole(),
+            Call::Figures { train: 2, limit },
+            NO_TRAIN,
+        ),
+        case("figures: refused 12", small(), figures, ROOM),
+    ]
+}
+
+/// Whether a call with so many bytes of one memory, and just enough of the others, does what it must.
+fn holds(case: &Case, memory: Memory, length: usize) -> bool {
+    let mut lengths = MEMORIES.map(Memory::required);
+    lengths[memory as usize] = length;
+    let mut lent = Lent::new(lengths, 0x3C);
+    let refusal = ask(case, &mut lent);
+    if length < memory.required() {
+        return refusal == Some(MEMORY) && lent.untouched();
+    }
+    let memories = case.call.memories();
+    match case.refusal {
+        0 => refusal == Some(0) && filled(&lent, memories),
+        number => refusal == Some(number) && lent.zero(memories),
+    }
+}
+
+/// The number of the refusal, if the answer is nothing but that.
+fn ask(case: &Case, lent: &mut Lent) -> Option<u8> {
+    let answer = match &case.call {
+        Call::Figures { train, limit } => {
+            let figures = Linked.figures(&case.files, *train as u64, *limit, lent);
+            let refused = Answer {
+                refusal: figures.refusal,
+                ..Answer::default()
+            };
+            let alone = bits(&figures) == bits(&figures_refused(&refused));
+            return (figures.refusal == 0 || alone).then_some(figures.refusal as u8);
+        }
+        Call::Run { stop } => Linked.run(&case.files, *stop as u64, lent),
+        _ => Linked.listing(&case.files, lent),
+    };
+    let alone = (answer.file, answer.place, answer.value) == (0, 0, 0);
+    (answer.refusal == 0 || alone).then_some(answer.refusal as u8)
+}
+
+/// Whether the memories hold what the same call leaves in memory that is just enough, and no other byte has changed.
+fn filled(lent: &Lent, memories: &[Memory]) -> bool {
+    let mut exact = Lent::exact();
+    Linked.listing(&shift(|_| {}), &mut exact);
+    MEMORIES
+        .iter()
+        .all(|memory| match memories.contains(memory) {
+            true => lent.of(*memory).holds(exact.of(*memory).part()),
+            false => lent.of(*memory).untouched(),
+        })
+}

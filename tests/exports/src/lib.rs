@@ -1,0 +1,182 @@
+//! The exported functions of include/lampreysong.h for Rust. Each takes any bytes, of any length.
+
+/// Bytes that a call must be lent for rows, for weights and for the listing's text.
+pub const ROWS: usize = 16_384;
+pub const WEIGHTS: usize = 40_320;
+pub const TEXT: usize = 32_768;
+
+/// The single run's answer for a train that does not arrive by the last minute.
+pub const NONE: u64 = 65_535;
+
+/// What the single run, the run and the listing answer.
+#[repr(C)]
+#[derive(Clone, Copy, Debug, Default, PartialEq, Eq)]
+pub struct Answer {
+    pub refusal: u16,
+    pub file: u16,
+    pub place: u32,
+    pub value: u64,
+}
+
+/// Punctuality: never, always, or a share.
+pub const NEVER: u32 = 1;
+pub const ALWAYS: u32 = 2;
+pub const SHARE: u32 = 3;
+
+/// What the figures answer.
+#[repr(C)]
+#[derive(Clone, Copy, Debug, Default)]
+pub struct TrainFigures {
+    pub refusal: u16,
+    pub file: u16,
+    pub place: u32,
+    pub punctuality: u32,
+    pub zero: u32,
+    pub share: f64,
+    pub on_time: f64,
+    pub late: f64,
+    pub not_arrived: f64,
+    pub lateness: u64,
+    pub arrived: u64,
+    pub kept: [u64; 4],
+}
+
+/// Each slice is handed over as its start and its length.
+mod linked {
+    use super::{Answer, TrainFigures};
+
+    extern "C" {
+        pub fn lampreysong_single(
+            case: *const u8,
+            case_length: usize,
+            book: *const u8,
+            book_length: usize,
+            choice: *const u8,
+            choice_length: usize,
+            train: u64,
+        ) -> Answer;
+
+        pub fn lampreysong_run(
+            case: *const u8,
+            case_length: usize,
+            book: *const u8,
+            book_length: usize,
+            stop: u64,
+            rows: *mut u8,
+            rows_length: usize,
+            weights: *mut u8,
+            weights_length: usize,
+        ) -> Answer;
+
+        pub fn lampreysong_listing(
+            case: *const u8,
+            case_length: usize,
+            book: *const u8,
+            book_length: usize,
+            rows: *mut u8,
+            rows_length: usize,
+            weights: *mut u8,
+            weights_length: usize,
+            text: *mut u8,
+            text_length: usize,
+        ) -> Answer;
+
+        pub fn lampreysong_figures(
+            case: *const u8,
+            case_length: usize,
+            book: *const u8,
+            book_length: usize,
+            train: u64,
+            limit: u16,
+            rows: *mut u8,
+            rows_length: usize,
+            weights: *mut u8,
+            weights_length: usize,
+        ) -> TrainFigures;
+    }
+}
+
+/// The minute in which a choice brings a train to its last station.
+pub fn single(case: &[u8], book: &[u8], choice: &[u8], train: u64) -> Answer {
+    // SAFETY: each pointer comes with the length of its own slice, and the slices outlive the call.
+    unsafe {
+        linked::lampreysong_single(
+            case.as_ptr(),
+            case.len(),
+            book.as_ptr(),
+            book.len(),
+            choice.as_ptr(),
+            choice.len(),
+            train,
+        )
+    }
+}
+
+/// The joint run to a stop minute: rows, weights and the number of entries.
+pub fn run(case: &[u8], book: &[u8], stop: u64, rows: &mut [u8], weights: &mut [u8]) -> Answer {
+    // SAFETY: each pointer comes with the length of its own slice; lent slices share no byte with any other, and all outlive the call.
+    unsafe {
+        linked::lampreysong_run(
+            case.as_ptr(),
+            case.len(),
+            book.as_ptr(),
+            book.len(),
+            stop,
+            rows.as_mut_ptr(),
+            rows.len(),
+            weights.as_mut_ptr(),
+            weights.len(),
+        )
+    }
+}
+
+/// The listing over the whole window, with rows and weights after the last minute, and its number of bytes.
+pub fn listing(
+    case: &[u8],
+    book: &[u8],
+    rows: &mut [u8],
+    weights: &mut [u8],
+    text: &mut [u8],
+) -> Answer {
+    // SAFETY: each pointer comes with the length of its own slice; lent slices share no byte with any other, and all outlive the call.
+    unsafe {
+        linked::lampreysong_listing(
+            case.as_ptr(),
+            case.len(),
+            book.as_ptr(),
+            book.len(),
+            rows.as_mut_ptr(),
+            rows.len(),
+            weights.as_mut_ptr(),
+            weights.len(),
+            text.as_mut_ptr(),
+            text.len(),
+        )
+    }
+}
+
+/// The figures of a train for a limit in minutes, with rows and weights after the last minute.
+pub fn figures(
+    case: &[u8],
+    book: &[u8],
+    train: u64,
+    limit: u16,
+    rows: &mut [u8],
+    weights: &mut [u8],
+) -> TrainFigures {
+    // SAFETY: each pointer comes with the length of its own slice; lent slices share no byte with any other, and all outlive the call.
+    unsafe {
+        linked::lampreysong_figures(
+            case.as_ptr(),
+            case.len(),
+            book.as_ptr(),
+            book.len(),
+            train,
+            limit,
+            rows.as_mut_ptr(),
+            rows.len(),
+            weights.as_mut_ptr(),
+            weights.len(),
+        )
+    }
+}
