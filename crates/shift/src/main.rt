@@ -1,10 +1,13 @@
 // Prints the listing of the case on standard input, with the book from the file `types.book` of the working directory; or the line of its refusal.
-// It hands on at most the first 4,096 bytes of each file.
+// It hands on at most the first 4,096 bytes of each file. Where one of them can't be read to its end, or so far, it prints nothing but a line on
+// standard error that names it.
+use file_input::Reading;
+use libc::STDERR_FILENO;
 use libc::STDIN_FILENO;
 use libc::STDOUT_FILENO;
 ghost use mathlib.Core.Path.{_≡_};
 ghost use lib.ListN.{length};
-ghost use Rattle.io.specs.Counts.{Counts};
+ghost use Rattle.file_input.specs.Reads.{Holds};
 ghost use Rattle.shift.specs.Shift.{Prints};
 
 // The text for a case and a book, at the start of the buffer, and its length.
@@ -28,38 +31,48 @@ fn print_for<'a>(case: &'a [u8], book: &'a [u8]) -> bool {
     io::write_all(STDOUT_FILENO, &text[..n])
 }
 
-// As many bytes of an open file as the buffer holds, none where reading fails before its end.
-fn read_file(fd: i32, buf: &mut [u8]) -> usize
-    ensures { λ r. ⌜ Counts r (now (buf .exit)) ⌝ }
-{
-    let n = io::read_full(fd, buf);
-    if n == buf.len() {
-        return n;
-    }
-    let mut next = [0u8; 1];
-    if libc::read(fd, &mut next) < 0 {
-        return 0;
-    }
-    n
-}
-
-// The book's bytes, none where it can't be opened or read.
-fn read_book(buf: &mut [u8]) -> usize
-    ensures { λ r. ⌜ Counts r (now (buf .exit)) ⌝ }
+// The book's bytes; none where it can't be opened.
+fn read_book(buf: &mut [u8]) -> Reading
+    ensures { λ r. ⌜ Holds r (now (buf .exit)) ⌝ }
 {
     let fd = os::open_read(b"types.book");
     if fd < 0 {
-        return 0;
+        return Reading::Whole(0);
     }
-    let n = read_file(fd, buf);
+    let r = file_input::read_file(fd, buf);
     libc::close(fd);
-    n
+    r
+}
+
+fn case_unread() {
+    io::write_all(
+        STDERR_FILENO,
+        b"shift: the case on standard input could not be read to its end\n",
+    );
+}
+
+fn book_unread() {
+    io::write_all(
+        STDERR_FILENO,
+        b"shift: types.book could not be read to its end\n",
+    );
+}
+
+// Prints the text for a case, with the book that is read now.
+fn print_with_book(case: &[u8]) {
+    let mut book = io::buffer();
+    let r = read_book(&mut book);
+    let Reading::Whole(n) = r else {
+        return book_unread();
+    };
+    print_for(case, &book[..n]);
 }
 
 fn main() {
     let mut case = io::buffer();
-    let n = io::read_full(STDIN_FILENO, &mut case);
-    let mut book = io::buffer();
-    let m = read_book(&mut book);
-    print_for(&case[..n], &book[..m]);
+    let r = file_input::read_file(STDIN_FILENO, &mut case);
+    let Reading::Whole(n) = r else {
+        return case_unread();
+    };
+    print_with_book(&case[..n]);
 }

@@ -1,7 +1,11 @@
-// What the programs that read files from standard input share: the next bytes of the input, and words of a line.
+// What the programs that read files from standard input share: the next files of the input, and words of a line.
+use file_input::Reading;
+use libc::STDERR_FILENO;
 use libc::STDIN_FILENO;
 use libc::STDOUT_FILENO;
+ghost use mathlib.Core.Path.{_≡_};
 ghost use Rattle.io.specs.Counts.{Counts};
+ghost use Rattle.tool_console.specs.Next.{isFull, isEmpty};
 
 // As many of the buffer's bytes as n says, or all.
 pub fn within(n: usize, buf: &[u8]) -> usize
@@ -13,10 +17,50 @@ pub fn within(n: usize, buf: &[u8]) -> usize
     buf.len()
 }
 
-// The next n bytes of the input, as many as the buffer holds.
-pub fn next_bytes(n: usize, buf: &mut [u8]) -> usize {
+// Says on standard error what could not be read.
+pub fn complain(text: &[u8]) -> bool {
+    io::write_all(STDERR_FILENO, text)
+}
+
+// Whether a reading brought all the bytes that were asked for. Where it did not, that is said on standard error.
+fn brought(r: Reading, asked: usize) -> bool
+    ensures { λ b. ⌜ b ≡ isFull r asked ⌝ }
+{
+    let Reading::Whole(n) = r else {
+        complain(b"the input could not be read to its end\n");
+        return false;
+    };
+    if n < asked {
+        complain(b"the input ends within a file\n");
+        return false;
+    }
+    true
+}
+
+// Whether the input had ended before the reading.
+fn ended(r: Reading) -> bool
+    ensures { λ b. ⌜ b ≡ isEmpty r ⌝ }
+{
+    let Reading::Whole(n) = r else {
+        return false;
+    };
+    n == 0
+}
+
+// The next n bytes of the input, as many as the buffer holds: whether they all came.
+pub fn next_bytes(n: usize, buf: &mut [u8]) -> bool {
     let k = within(n, buf);
-    io::read_full(STDIN_FILENO, &mut buf[..k])
+    let r = file_input::read_file(STDIN_FILENO, &mut buf[..k]);
+    brought(r, k)
+}
+
+// The sizes of the next files of the input: whether there are any.
+pub fn next_sizes(sizes: &mut [u8]) -> bool {
+    let r = file_input::read_file(STDIN_FILENO, sizes);
+    if ended(r) {
+        return false;
+    }
+    brought(r, sizes.len())
 }
 
 pub fn word(text: &[u8]) -> bool {

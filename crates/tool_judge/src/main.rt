@@ -1,7 +1,7 @@
 // Reads pairs of files from standard input and prints what the reader says of each, a line a pair: `accepted`, or the
-// refusal's number, file and place. A pair is the case's length (2 bytes), the book's (2), the case and the book.
+// refusal's number, file and place. A pair is the case's length (2 bytes), the book's (2), the case and the book. An input that can't be read
+// to its end, or that ends within a pair, is said so on standard error, and that pair is not judged.
 use file_lookup::Files;
-use libc::STDIN_FILENO;
 
 fn print_refusal(number: usize, file: usize, place: usize) -> bool {
     tool_console::number(number);
@@ -23,15 +23,19 @@ fn print_verdict(case: &[u8], book: &[u8]) -> bool {
 // Judges the next pair, and answers whether there was one.
 fn judge_pair() -> bool {
     let mut sizes = [0u8; 4];
-    if io::read_full(STDIN_FILENO, &mut sizes) < 4 {
+    if !tool_console::next_sizes(&mut sizes) {
         return false;
     }
     let a = file_fields::word(&sizes, 0);
     let b = file_fields::word(&sizes, 2);
     let mut case = io::buffer();
     let mut book = io::buffer();
-    tool_console::next_bytes(a, &mut case);
-    tool_console::next_bytes(b, &mut book);
+    if !tool_console::next_bytes(a, &mut case) {
+        return false;
+    }
+    if !tool_console::next_bytes(b, &mut book) {
+        return false;
+    }
     let n = tool_console::within(a, &case);
     let m = tool_console::within(b, &book);
     print_verdict(&case[..n], &book[..m])

@@ -1,9 +1,9 @@
 // Reads files from standard input and prints what a field viewer gives of each, a line a field: its place, tag and length; then `ended`
-// or `refused 1` with the place at which the viewer stays. A file comes as its length (2 bytes) and its bytes.
+// or `refused 1` with the place at which the viewer stays. A file comes as its length (2 bytes) and its bytes. An input that can't be read to
+// its end, or that ends within a file, is said so on standard error, and that file is not viewed.
 use file_fields::Field;
 use file_fields::refusals;
 use file_viewer::Viewing;
-use libc::STDIN_FILENO;
 
 fn print_field(place: usize, tag: usize, size: usize) -> bool {
     tool_console::number(place);
@@ -60,12 +60,14 @@ fn print_file(file: &[u8]) {
 // Views the next file, and answers whether there was one.
 fn view_file() -> bool {
     let mut size = [0u8; 2];
-    if io::read_full(STDIN_FILENO, &mut size) < 2 {
+    if !tool_console::next_sizes(&mut size) {
         return false;
     }
     let length = file_fields::word(&size, 0);
     let mut file = io::buffer();
-    tool_console::next_bytes(length, &mut file);
+    if !tool_console::next_bytes(length, &mut file) {
+        return false;
+    }
     let n = tool_console::within(length, &file);
     print_file(&file[..n]);
     true
