@@ -1,7 +1,12 @@
 /* The planning desk's calls: the single run, the joint run, the listing and the figures of a shift.
  *
  * A case and a book are bytes (docs/FORMATS.md). Every call takes any bytes, damaged ones too: it answers, or it refuses with a number, a file
- * and a place. Nothing is kept between calls, nothing is allocated, and a call needs less than 512 KiB of stack. */
+ * and a place. Nothing is kept between calls, nothing is allocated, and a call needs less than 512 KiB of stack.
+ *
+ * Each pointer points to as many bytes as the length after it says; where that is 0, it is never followed and may be null. The case, the book and the
+ * choice are only read, and may share bytes. Lent memory (rows, weights, text) is written: each of the three must share no byte with another of them,
+ * with the case, the book or the choice, and nothing else may change any of these bytes before the call returns. Where that is not kept, nothing is
+ * promised: not the answer, not what is refused, and not what any memory holds after the call. */
 #ifndef LAMPREYSONG_H
 #define LAMPREYSONG_H
 
