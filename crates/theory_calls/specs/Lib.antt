@@ -1,3 +1,4 @@
 pub mod Memory
+pub mod Plan
 pub mod Promises
 pub mod Engine
