@@ -29,7 +29,8 @@ use Rattle.theory_sound.specs.Trains.{anywhere, way-apart}
 use Rattle.theory_simulation.specs.Keeping.{run-keeps}
 use Rattle.theory_simulation.specs.Places.{Asked, asked}
 use Rattle.theory_weights.specs.Log.{single-logged}
-use Rattle.theory_weights.specs.Arrivals.{arrivesIn, arrivesIn-arrival}
+use Rattle.rules.specs.Demands.{arrivesIn}
+use Rattle.theory_weights.specs.Arrivals.{arrivesIn-arrival}
 use Rattle.theory_demands.specs.Demands.{demand-2, demand-2-later}
 
 -- ---- the rest of a way

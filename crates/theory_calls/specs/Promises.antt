@@ -1,25 +1,33 @@
 -- The three demands over the calls, as a reader opens them first. The exported functions answer what `singleRun`, `runCall`, `listingCall` and
 -- `figuresCall` say, so these theorems are about them. Each proof cites the crates below. Assumes nothing.
-use mathlib.Core.Path.{_≡_, refl, ap, _∙_}
-use mathlib.Core.Bool.{Bool, true, false, cond}
+use mathlib.Core.Path.{_≡_, refl, sym, ap, _∙_, subst}
+use mathlib.Core.Bool.{Bool, true, false, cond, false≢true}
+use mathlib.Core.Logic.{_↔_}
 use mathlib.Core.List.{List, []}
 use Prim.Native.Nat.{ℕ, _≤_, _<_}
+use native.Mathlib.Omega.{arith}
 use lib.ListN.{length, take}
+use lib.Dec.{leb, ltb}
 use Rattle.rules.specs.Lists.{keep, sum, any}
 use Rattle.rules.specs.Refusals.{Refusal, nowhere, Result, refuse, then}
 use Rattle.rules.specs.Refusals.Result.{refused, answer}
 use Rattle.rules.specs.Files.{Case, files}
 use Rattle.rules.specs.Turns.{State}
-use Rattle.rules.specs.Joint.{choices, weightOf, Entry, firstList, jointRules, joint, weightAt}
-use Rattle.rules.specs.Listing.{notArrived}
+use Rattle.rules.specs.Joint.{choices, weightOf, Entry, joint, weightAt}
+use Rattle.rules.specs.Listing.{notArrived, listing}
 use Rattle.rules.specs.Calls.{Run, runTo, stoppedRun, wholeRun, trainRun, Memory, textBytes, textOf, short, Lent, call, runCall, listingCall, figuresCall}
 use Rattle.rules.specs.Figures.{figures}
-use Rattle.rules.specs.Demands.{Choice, Simulates, arrivesIn, arrivesNever, runLists, passes}
+use Rattle.rules.specs.Demands.{Choice, Simulates, arrivesIn}
 use Rattle.theory_sound.specs.Accepted.{accepted-sound}
 use Rattle.theory_sound.specs.Window.{files-window}
+use Rattle.theory_sound.specs.Places.{files-told}
+use Rattle.theory_sound.specs.Verdicts.{refused-answer, answer-answer, refused-refused}
 use Rattle.theory_weights.specs.Room.{list-fits}
-use Rattle.theory_demands.specs.Demands.{demand-3, demand-2, demand-2-later, demand-2-not-arrived, room-askers}
+use Rattle.theory_demands.specs.Demands.{demand-3, demand-2, demand-2-later, demand-2-not-arrived}
 use Rattle.theory_sound.specs.Runs.{Answered, stopped-answer, whole-answer, train-answer}
+use Rattle.theory_calls.specs.Decided.{refusalOf, full, lateStop, missingTrain, Decided, stopped-decided, whole-decided, train-decided}
+use Rattle.theory_calls.specs.Decided.Decided.{by-files, by-arguments, by-room, by-run}
+use Rattle.theory_calls.specs.Counted.{missing, countedFigures, countedListing, listing-counted, figures-counted}
 use Rattle.theory_calls.specs.Memory.{memory, cleared, written, call-short, call-refused, call-answered}
 
 -- ---- demand 1: all inputs, and every byte of lent memory
@@ -91,15 +99,101 @@ listing-promised cs bk u e = promised cs bk (u .of .head .lastMinute) u (whole-a
 pub figures-promised : (cs bk : List ℕ) (k : ℕ) (u : Run) → trainRun cs bk k ≡ answer u → Promised cs bk (u .of .head .lastMinute) u
 figures-promised cs bk k u e = promised cs bk (u .of .head .lastMinute) u (train-answer cs bk k u e .0)
 
--- "not arrived" is counted from the same runs
-pub not-arrived : (cs bk : List ℕ) (u : Run) → wholeRun cs bk ≡ answer u → (k : ℕ)
-    → notArrived (u .of) (u .state .arrived) k ≡ sum (weightOf (u .of)) (keep (arrivesNever (u .of) k) (choices (u .of)))
+-- "not arrived" is counted from the same runs: in the listing
+pub not-arrived : (cs bk : List ℕ) (u : Run) → wholeRun cs bk ≡ answer u → (k : ℕ) → notArrived (u .of) (u .state .arrived) k ≡ missing (u .of) k
 not-arrived cs bk u e k =
     let a = whole-answer cs bk u e in
     ap (λ (s : State Entry). notArrived (u .of) (s .arrived) k) (a .state) ∙ demand-2-not-arrived cs bk (u .of) (a .accepted) k
 
--- the list counts as full only by the stated cutting rule: a run of an accepted case is refused 12 exactly when the first list, or the list after
--- some asking entry was served, has more entries than the room, and for nothing else
-pub full-list : (cs bk : List ℕ) (C : Case) → files cs bk ≡ answer C → (m : ℕ)
-    → joint C m .met ≡ cond (any (passes (C .head .room)) (runLists C (jointRules C) (firstList C) m)) 12 0
-full-list cs bk C accepted m = room-askers cs bk C accepted m
+-- and in the figures, which are all counted over choices
+pub figures-are : (cs bk : List ℕ) (k : ℕ) (u : Run) → trainRun cs bk k ≡ answer u → (L : ℕ) → figures (u .of) (u .state .arrived) k L ≡ countedFigures (u .of) k L
+figures-are cs bk k u e L =
+    let a = train-answer cs bk k u e .0 in
+    ap (λ (s : State Entry). figures (u .of) (s .arrived) k L) (a .state) ∙ figures-counted cs bk (u .of) (a .accepted) k L
+
+-- the text of the listing is counted over choices, line by line
+pub text-is : (cs bk : List ℕ) (u : Run) → wholeRun cs bk ≡ answer u → textOf u ≡ countedListing (u .of)
+unfolding textOf
+text-is cs bk u e =
+    let a = whole-answer cs bk u e in
+    ap (λ (s : State Entry). listing (u .of) (s .arrived)) (a .state) ∙ listing-counted cs bk (u .of) (a .accepted)
+
+-- ---- the list counts as full only by the stated cutting rule
+
+-- the call is refused, with this number
+abbrev pub RefusedWith : {A : Type 0} → ℕ → Result A → Type 0
+RefusedWith n (refused f) = f .number ≡ n
+RefusedWith n (answer a) = ⊥
+
+-- memory suffices, the files and the arguments are sound, and the first list, or the list after some asking entry was served, has more entries than the room
+pub record Full (asked : ℕ) (m : Memory) (cs bk : List ℕ) (arguments stop : Case → ℕ) : Type 0 where
+  pub of : Case
+  pub suffices : short asked m ≡ false
+  pub accepted : files cs bk ≡ answer of
+  pub sound : arguments of ≡ 0
+  pub passed : full of (stop of) ≡ true
+
+module _ {A : Type 0} (asked : ℕ) (value : Run → A) (text : Run → List ℕ) (m : Memory) (cs bk : List ℕ) (arguments stop : Case → ℕ)
+    (other : (C : Case) → arguments C ≡ 12 → ⊥) (r : Result Run) (d : Decided cs bk arguments stop r) where
+  refused-full : short asked m ≡ false → (f : Refusal) → r ≡ refused f → f .number ≡ 12 → Full asked m cs bk arguments stop
+  refused-full h f e n = go d
+    where
+      number-is : (g : Refusal) → r ≡ refused g → g .number ≡ 12
+      number-is g q = ap (λ (z : Refusal). z .number) (refused-refused g f (sym q ∙ e)) ∙ n
+
+      go : Decided cs bk arguments stop r → Full asked m cs bk arguments stop
+      go (by-files g a q) = absurd (omega (arith, number-is g q, files-told cs bk g a .few-numbers))
+      go (by-arguments C a b q) = absurd (other C (number-is (refusalOf (arguments C)) q))
+      go (by-room C a b p q) = record { of = C; suffices = h; accepted = a; sound = b; passed = p }
+      go (by-run C a b p q) = absurd (refused-answer f _ (sym e ∙ q))
+
+  full-refused : Full asked m cs bk arguments stop → r ≡ refused (refusalOf 12)
+  full-refused f = go d
+    where
+      same : (C : Case) → files cs bk ≡ answer C → f .of ≡ C
+      same C a = answer-answer (f .of) C (sym (f .accepted) ∙ a)
+
+      go : Decided cs bk arguments stop r → r ≡ refused (refusalOf 12)
+      go (by-files g a q) = absurd (refused-answer g (f .of) (sym a ∙ f .accepted))
+      go (by-arguments C a b q) = absurd (omega (arith, f .sound, ap arguments (same C a)))
+      go (by-room C a b p q) = q
+      go (by-run C a b p q) = absurd (false≢true (sym p ∙ sym (ap (λ (D : Case). full D (stop D)) (same C a)) ∙ f .passed))
+
+  -- a call is refused 12 exactly then
+  call-full : RefusedWith 12 (call asked value text m r .result) ↔ Full asked m cs bk arguments stop
+  call-full = (λ h. forth (call-comes asked value text m r) h, λ f. back f)
+    where
+      forth : {l : Lent A} → Comes asked value text m r l → RefusedWith 12 (l .result) → Full asked m cs bk arguments stop
+      forth (short-of s q) h = absurd (omega (arith, subst (λ (z : Lent A). RefusedWith 12 (z .result)) q h))
+      forth (refused-for f s e q) h = refused-full s f e (subst (λ (z : Lent A). RefusedWith 12 (z .result)) q h)
+      forth (answered-by u s e q) h = absurd (subst (λ (z : Lent A). RefusedWith 12 (z .result)) q h)
+
+      back : Full asked m cs bk arguments stop → RefusedWith 12 (call asked value text m r .result)
+      back f = subst (λ (z : Lent A). RefusedWith 12 (z .result)) (sym (call-refused asked value text m r (refusalOf 12) (f .suffices) (full-refused f))) refl
+
+-- the run to minute t
+pub run-full : (cs bk : List ℕ) (t : ℕ) (m : Memory) → RefusedWith 12 (runCall cs bk t m .result) ↔ Full 0 m cs bk (lateStop t) (λ C. t)
+unfolding runCall
+run-full cs bk t m =
+    call-full 0 (λ u. length (u .state .list)) (λ u. []) m cs bk (lateStop t) (λ C. t) (λ C. other (ltb (C .head .lastMinute) t)) (stoppedRun cs bk t) (stopped-decided cs bk t)
+  where
+    other : (b : Bool) → _≡_ {A = ℕ} (cond b 17 0) 12 → ⊥
+    other true h = omega arith
+    other false h = omega arith
+
+-- the listing
+pub listing-full : (cs bk : List ℕ) (m : Memory) → RefusedWith 12 (listingCall cs bk m .result) ↔ Full textBytes m cs bk (λ C. 0) (λ C. C .head .lastMinute)
+unfolding listingCall
+listing-full cs bk m =
+    call-full textBytes (λ u. length (textOf u)) textOf m cs bk (λ C. 0) (λ C. C .head .lastMinute) (λ C h. omega arith) (wholeRun cs bk) (whole-decided cs bk)
+
+-- the figures of train k for a limit of L minutes
+pub figures-full : (cs bk : List ℕ) (k L : ℕ) (m : Memory) → RefusedWith 12 (figuresCall cs bk k L m .result) ↔ Full 0 m cs bk (missingTrain k) (λ C. C .head .lastMinute)
+unfolding figuresCall
+figures-full cs bk k L m =
+    call-full 0 (λ u. figures (u .of) (u .state .arrived) k L) (λ u. []) m cs bk (missingTrain k) (λ C. C .head .lastMinute)
+    (λ C. other (leb (length (C .trains)) k)) (trainRun cs bk k) (train-decided cs bk k)
+  where
+    other : (b : Bool) → _≡_ {A = ℕ} (cond b 16 0) 12 → ⊥
+    other true h = omega arith
+    other false h = omega arith
