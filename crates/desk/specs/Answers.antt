@@ -1,39 +1,75 @@
--- What the calls of 01 come to, as the C answers have it: the refusal's number, file and place and 0, or 0, 0, 0 and the value.
--- Assumes nothing: these are definitions.
+-- What the exported functions answer and leave in lent memory: the C structs of the answers of 01, field by field, and the contract of each function
+-- under a name of its own. Assumes nothing: these are definitions.
 use mathlib.Core.Path.{_≡_}
 use mathlib.Core.List.{List, [], _∷_}
-use mathlib.Core.Option.{Option, none, some}
+use mathlib.Core.Option.{Option}
 use Prim.Native.Nat.{ℕ}
 use Rattle.rules.specs.Refusals.{Refusal, Result}
-use Rattle.rules.specs.Refusals.Result.{refused, answer}
-use Rattle.rules.specs.Calls.{Memory, Lent}
+use Rattle.rules.specs.Calls.{Memory, Lent, singleRun, runCall, listingCall, figuresCall}
 use Rattle.rules.specs.Figures as rules
+use Rattle.rules.specs.Answers as answers
 use Rattle.out_figures.specs.declared.Figures.{Figures}
-use Rattle.out_figures.specs.Answers.{numberOf, valueOf, figuresAnswer, noFigures}
+use Rattle.out_figures.specs.Answers.{caseOf}
 use Rattle.desk.specs.declared.Answer.{Answer}
 use Rattle.desk.specs.declared.TrainFigures.{TrainFigures}
 
 -- ---- the single run, the run and the listing
 
+-- the struct of an answer
+abbrev pub structOf : answers.Answer → Answer
+structOf a = record { refusal = a .refusal; file = a .file; place = a .place; value = a .value }
+
 abbrev pub refusedWith : Refusal → Answer
-refusedWith r = record { refusal = r .number; file = r .file; place = r .place; value = 0 }
+refusedWith r = structOf (answers.refusedWith r)
 
 abbrev pub answered : ℕ → Answer
-answered v = record { refusal = 0; file = 0; place = 0; value = v }
+answered v = structOf (answers.answered v)
 
 -- number of entries, or number of bytes
 abbrev pub answerOf : Result ℕ → Answer
-answerOf (refused r) = refusedWith r
-answerOf (answer v) = answered v
+answerOf r = structOf (answers.numberAnswer r)
 
 -- minute of arrival, or 65,535
-abbrev pub minuteAnswer : Option ℕ → ℕ
-minuteAnswer none = 65535
-minuteAnswer (some t) = t
-
 abbrev pub singleAnswer : Result (Option ℕ) → Answer
-singleAnswer (refused r) = refusedWith r
-singleAnswer (answer o) = answered (minuteAnswer o)
+singleAnswer r = structOf (answers.minuteAnswer r)
+
+-- ---- the figures
+
+-- the struct of the figures' answer; two fields of it are always 0
+abbrev pub figuresStruct : answers.FiguresAnswer → TrainFigures
+figuresStruct a = record {
+  refusal = a .refusal;
+  file = a .file;
+  place = a .place;
+  punctuality = a .punctuality;
+  zero = 0;
+  share = a .share;
+  «on_time» = a .onTime;
+  late = a .late;
+  «not_arrived» = a .notArrived;
+  lateness = a .lateness;
+  arrived = a .arrived;
+  kept = 0 ∷ 0 ∷ 0 ∷ 0 ∷ [];
+}
+
+-- all 0 but the refusal, or the figures
+abbrev pub figuresOf : Result rules.Figures → TrainFigures
+figuresOf r = figuresStruct (answers.figuresAnswer r)
+
+-- the program's figures beside the refusal of an answer
+abbrev pub trainFigures : Answer → Figures → TrainFigures
+trainFigures a f = figuresStruct (record {
+  refusal = a .refusal;
+  file = a .file;
+  place = a .place;
+  punctuality = answers.punctualityNumber (caseOf (f .punctuality));
+  share = answers.punctualityValue (caseOf (f .punctuality));
+  onTime = f .shares .«on_time»;
+  late = f .shares .late;
+  notArrived = f .shares .«not_arrived»;
+  lateness = f .sum;
+  arrived = f .weight;
+})
 
 -- ---- lent memory
 
@@ -43,32 +79,6 @@ lentTwo rows weights = record { rows = rows; weights = weights; text = [] }
 
 abbrev pub lentThree : List ℕ → List ℕ → List ℕ → Memory
 lentThree rows weights text = record { rows = rows; weights = weights; text = text }
-
--- ---- the figures
-
--- punctuality: 0 refused, 1 never, 2 always, 3 a share
-abbrev pub trainFigures : Answer → Figures → TrainFigures
-trainFigures a f = record {
-  refusal = a .refusal;
-  file = a .file;
-  place = a .place;
-  punctuality = numberOf (f .punctuality);
-  zero = 0;
-  share = valueOf (f .punctuality);
-  «on_time» = f .shares .«on_time»;
-  late = f .shares .late;
-  «not_arrived» = f .shares .«not_arrived»;
-  lateness = f .sum;
-  arrived = f .weight;
-  kept = 0 ∷ 0 ∷ 0 ∷ 0 ∷ [];
-}
-
--- all 0 but the refusal, or the figures
-abbrev pub figuresOf : Result rules.Figures → TrainFigures
-figuresOf (refused r) = trainFigures (refusedWith r) noFigures
-figuresOf (answer f) = trainFigures (answered 0) (figuresAnswer f)
-
--- ---- a call that is lent memory
 
 -- the answer is the call's result, and rows and weights are its memory
 pub record Gives {A B : Type 0} (told : Result A → B) (call : Lent A) (a : B) (rows weights : List ℕ) : Type 0 where
@@ -80,3 +90,21 @@ pub record Gives {A B : Type 0} (told : Result A → B) (call : Lent A) (a : B) 
 pub record GivesText {A B : Type 0} (told : Result A → B) (call : Lent A) (a : B) (rows weights text : List ℕ) : Type 0 where
   pub two : Gives told call a rows weights
   pub text-is : text ≡ call .memory .text
+
+-- ---- what each exported function ensures: of its arguments and the memory before, the answer a and the memory after
+
+-- `lampreysong_single`
+abbrev pub SingleGives : List ℕ → List ℕ → List ℕ → ℕ → Answer → Type 0
+SingleGives cs bk choice train a = a ≡ singleAnswer (singleRun cs bk choice train)
+
+-- `lampreysong_run`
+abbrev pub RunGives : List ℕ → List ℕ → ℕ → List ℕ → List ℕ → Answer → List ℕ → List ℕ → Type 0
+RunGives cs bk stop rows weights a rows′ weights′ = Gives answerOf (runCall cs bk stop (lentTwo rows weights)) a rows′ weights′
+
+-- `lampreysong_listing`
+abbrev pub ListingGives : List ℕ → List ℕ → List ℕ → List ℕ → List ℕ → Answer → List ℕ → List ℕ → List ℕ → Type 0
+ListingGives cs bk rows weights text a rows′ weights′ text′ = GivesText answerOf (listingCall cs bk (lentThree rows weights text)) a rows′ weights′ text′
+
+-- `lampreysong_figures`
+abbrev pub FiguresGives : List ℕ → List ℕ → ℕ → ℕ → List ℕ → List ℕ → TrainFigures → List ℕ → List ℕ → Type 0
+FiguresGives cs bk train limit rows weights a rows′ weights′ = Gives figuresOf (figuresCall cs bk train limit (lentTwo rows weights)) a rows′ weights′

@@ -15,6 +15,7 @@ use Rattle.theory_codes.specs.Tables as codes
 use Rattle.out_images.specs.Rows.{Weighed}
 use Rattle.out_figures.specs.declared.Figures.{Figures}
 use Rattle.out_figures.specs.Answers.{figuresAnswer, noFigures}
+use Rattle.out_figures.specs.Laws.{case-of}
 use Rattle.desk.specs.declared.Answer.{Answer}
 use Rattle.desk.specs.declared.TrainFigures.{TrainFigures}
 use Rattle.desk.specs.Answers.{refusedWith, answered, answerOf, trainFigures, figuresOf, lentTwo, lentThree, Gives, GivesText}
@@ -163,6 +164,10 @@ module _ (cs bk : List ℕ) {rows weights : List ℕ} (text : List ℕ) where
 abbrev figuresOn : ℕ → ℕ → Run → rules.Figures
 figuresOn k L u = rules.figures (u .of) (u .state .arrived) k L
 
+-- the program's figures of an answered call are those of 01, as its answer has them
+figures-told : (f : rules.Figures) → trainFigures (answered 0) (figuresAnswer f) ≡ figuresOf (answer f)
+figures-told f = rw (case-of (f .punctuality))
+
 module _ (cs bk : List ℕ) (k L : ℕ) {rows weights : List ℕ} where
   pub figures-short : {a : Answer} {z : TrainFigures} → a ≡ tooShortAnswer → z ≡ trainFigures a noFigures → short 0 (lentTwo rows weights) ≡ true
       → Gives figuresOf (figuresCall cs bk k L (lentTwo rows weights)) z rows weights
@@ -192,4 +197,5 @@ module _ (cs bk : List ℕ) (k L : ℕ) {rows weights : List ℕ} where
         gives-figures (t
         ∙ ap (λ (b : Answer). trainFigures b f) (w .result ∙ ap (λ (W : Result Run). answerOf (entries W)) (s .is))
         ∙ ap (trainFigures (answered 0)) q
+        ∙ figures-told (figuresOn k L (s .run))
         ∙ ap (λ (W : Result Run). figuresOf (lent 0 (figuresOn k L) (λ u. []) (lentTwo rows weights) W .result)) (sym (s .is)))

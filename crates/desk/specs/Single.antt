@@ -15,6 +15,7 @@ use Rattle.rules.specs.Files.{Case, files}
 use Rattle.rules.specs.Single.{arrival}
 use Rattle.rules.specs.Calls.{choiceBroken, noSuchTrain, singleRun}
 use Rattle.theory_lists.specs.Every.{Every}
+use Rattle.rules.specs.Answers as answers
 use Rattle.theory_sound.specs.Facts.{Sound}
 use Rattle.theory_sound.specs.Accepted.{accepted-sound}
 use Rattle.theory_codes.specs.Tables.{tables}
@@ -30,7 +31,7 @@ use Rattle.single.specs.Words.{Small}
 use Rattle.single.specs.Runs.{minuteNumber, Arrives}
 use Rattle.single.specs.Low.{words-small, tables-last}
 use Rattle.desk.specs.declared.Answer.{Answer}
-use Rattle.desk.specs.Answers.{answered, minuteAnswer, singleAnswer}
+use Rattle.desk.specs.Answers.{answered, singleAnswer}
 use Rattle.desk.specs.Steps.{filesAnswer, Tells}
 use Rattle.desk.specs.Laws.{Judged, refused-files, argument-fits}
 use Rattle.desk.specs.Laws.Judged.{stopped, goes}
@@ -126,6 +127,6 @@ module _ (cs bk x : List ℕ) (k : ℕ) where
           ∙ ap (λ (R : Result Case). singleAnswer (then R (λ D. answer (arrival D x k)))) (sym (ready .told-as))
           ∙ ap singleAnswer single-run
         where
-          minute : (o : Option ℕ) → minuteNumber o ≡ minuteAnswer o
+          minute : (o : Option ℕ) → minuteNumber o ≡ answers.minuteNumber o
           minute none = refl
           minute (some t) = refl

@@ -11,9 +11,10 @@ ghost use Prim.Native.Nat.{_≤_};
 ghost use lib.ListN.{length, replicate};
 ghost use Rattle.rules.specs.Refusals.Result.{answer};
 ghost use Rattle.rules.specs.Files as rulesFiles;
-ghost use Rattle.rules.specs.Calls.{filled, singleRun, runCall, listingCall, figuresCall};
+ghost use Rattle.rules.specs.Calls.{filled};
+ghost use Rattle.rules.specs.Answers.{punctualityNumber, punctualityValue};
 ghost use Rattle.out_figures.specs.Answers as told;
-ghost use Rattle.desk.specs.Answers.{refusedWith, answered, answerOf, singleAnswer, trainFigures, figuresOf, lentTwo, lentThree, Gives, GivesText};
+ghost use Rattle.desk.specs.Answers.{refusedWith, answered, trainFigures, SingleGives, RunGives, ListingGives, FiguresGives};
 ghost use Rattle.desk.specs.Steps.{Fits, Begins, Start, runOf, Tells, filesAnswer, Ran, Filled, Laid, Printable, Printed, Measurable, Measured};
 
 // What the single run, the run and the listing answer; `refusal` is 0 if the call was answered.
@@ -172,7 +173,7 @@ fn measure(tables: &[u64], ws: &[u64], train: u64, limit: u16) -> Figures
 }
 
 fn number_of(p: Punctuality) -> u32
-    ensures { λ r. ⌜ r ≡ told.numberOf p ⌝ }
+    ensures { λ r. ⌜ r ≡ punctualityNumber (told.caseOf p) ⌝ }
 {
     match p {
         Punctuality::Refused => 0,
@@ -183,7 +184,7 @@ fn number_of(p: Punctuality) -> u32
 }
 
 fn value_of(p: Punctuality) -> f64
-    ensures { λ r. ⌜ r ≡ told.valueOf p ⌝ }
+    ensures { λ r. ⌜ r ≡ punctualityValue (told.caseOf p) ⌝ }
 {
     match p {
         Punctuality::Refused => 0.0,
@@ -231,7 +232,7 @@ pub extern "C" fn lampreysong_single<'a>(
     choice: &[u8],
     train: u64,
 ) -> Answer
-    ensures { λ r. ⌜ r ≡ singleAnswer (singleRun (now (case .entry)) (now (book .entry)) (now (choice .entry)) train) ⌝ }
+    ensures { λ r. ⌜ SingleGives (now (case .entry)) (now (book .entry)) (now (choice .entry)) train r ⌝ }
 {
     let f = file_arguments::for_single(case, book, choice, train as usize);
     let Files::Sound(s) = f else {
@@ -252,7 +253,7 @@ pub extern "C" fn lampreysong_run<'a>(
     rows: &mut [u8],
     weights: &mut [u8],
 ) -> Answer
-    ensures { λ r. ⌜ Gives answerOf (runCall (now (case .entry)) (now (book .entry)) stop (lentTwo (now (rows .entry)) (now (weights .entry)))) r (now (rows .exit)) (now (weights .exit)) ⌝ }
+    ensures { λ r. ⌜ RunGives (now (case .entry)) (now (book .entry)) stop (now (rows .entry)) (now (weights .entry)) r (now (rows .exit)) (now (weights .exit)) ⌝ }
 {
     if rows.len() < 16384 {
         return refused(refusals::TOO_SHORT, 0, 0);
@@ -276,7 +277,7 @@ pub extern "C" fn lampreysong_listing<'a>(
     weights: &mut [u8],
     text: &mut [u8],
 ) -> Answer
-    ensures { λ r. ⌜ GivesText answerOf (listingCall (now (case .entry)) (now (book .entry)) (lentThree (now (rows .entry)) (now (weights .entry)) (now (text .entry)))) r (now (rows .exit)) (now (weights .exit)) (now (text .exit)) ⌝ }
+    ensures { λ r. ⌜ ListingGives (now (case .entry)) (now (book .entry)) (now (rows .entry)) (now (weights .entry)) (now (text .entry)) r (now (rows .exit)) (now (weights .exit)) (now (text .exit)) ⌝ }
 {
     if rows.len() < 16384 {
         return refused(refusals::TOO_SHORT, 0, 0);
@@ -309,7 +310,7 @@ pub extern "C" fn lampreysong_figures<'a>(
     rows: &mut [u8],
     weights: &mut [u8],
 ) -> TrainFigures
-    ensures { λ r. ⌜ Gives figuresOf (figuresCall (now (case .entry)) (now (book .entry)) train limit (lentTwo (now (rows .entry)) (now (weights .entry)))) r (now (rows .exit)) (now (weights .exit)) ⌝ }
+    ensures { λ r. ⌜ FiguresGives (now (case .entry)) (now (book .entry)) train limit (now (rows .entry)) (now (weights .entry)) r (now (rows .exit)) (now (weights .exit)) ⌝ }
 {
     if rows.len() < 16384 {
         return refused_figures(refused(refusals::TOO_SHORT, 0, 0));

@@ -3,6 +3,7 @@
 use mathlib.Core.Path.{_≡_, refl, sym, ap, ap₂, _∙_}
 use mathlib.Core.Bool.{Bool, true, false}
 use mathlib.Core.List.{List}
+use mathlib.Core.Option.{some}
 use Prim.Native.Nat.{ℕ, zero, suc, _+_, _-_, _*_, _≤_, _<_}
 use native.Mathlib.Nat.{mul-le-mul-right, zero-mul, one-mul}
 use native.Mathlib.Omega.{arith}
@@ -13,11 +14,20 @@ use Rattle.rules.specs.Files.{Case}
 use Rattle.rules.specs.Turns.{Arrival}
 use Rattle.rules.specs.Joint.{Entry, weightAt}
 use Rattle.rules.specs.Listing.{notArrived}
-use Rattle.rules.specs.Figures.{plan, weightIn, onTime, late, latenessSum, latenessWeight, punctuality, shares, figures}
+use Rattle.rules.specs.Figures.{plan, weightIn, onTime, late, latenessSum, latenessWeight, Punctuality, punctuality, shares, figures}
+use Rattle.rules.specs.Figures.Punctuality.{never, always, share}
 use Rattle.words.specs.Spans.{onward, onward-all, onward-next, onward-end}
 use Rattle.theory_lists.specs.Sums.{sum-keep, sum-plus, sum-same, sum-times}
 use Rattle.out_figures.specs.Sums.{wordOf, arrivedWeight, onTimeWeight, lateWeight, lateness, judgement, sharesIn, figuresIn}
-use Rattle.out_figures.specs.Answers.{Holds}
+use Rattle.out_figures.specs.Answers.{caseOf, punctualityAnswer, Holds}
+
+-- ---- punctuality
+
+-- the enum that stands for a punctuality is of its case
+pub case-of : (p : Punctuality) → caseOf (punctualityAnswer p) ≡ some p
+case-of never = refl
+case-of always = refl
+case-of (share x) = refl
 
 -- ---- the rest of the window
 

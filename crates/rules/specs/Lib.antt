@@ -7,6 +7,7 @@ pub mod Single
 pub mod Joint
 pub mod Listing
 pub mod Figures
+pub mod Answers
 pub mod Calls
 pub mod Demands
 pub mod Points

@@ -1,7 +1,8 @@
 -- `desk::value_of` meets its contract: each arm is a case of punctuality. Assumes nothing.
 use mathlib.Core.Path.{ap, sym}
 use lib.Ieee.{ofBits}
-use Rattle.out_figures.specs.Answers.{valueOf}
+use Rattle.rules.specs.Answers.{punctualityValue}
+use Rattle.out_figures.specs.Answers.{caseOf}
 use borrow.Author.Needs.{needs}
 use Rattle.desk.proofs.value_of.Statement.{statement}
 use Rattle.desk.proofs.value_of.Tie as tie
@@ -20,15 +21,15 @@ enum-known-p c = search needs
 
 returns : tie.Need-returns
 unfolding ofBits
-returns c = sym (ap valueOf (c .enum-told .given .1))
+returns c = sym (ap (λ p. punctualityValue (caseOf p)) (c .enum-told .given .1))
 
 returns-2 : tie.Need-returns-2
 unfolding ofBits
-returns-2 c = sym (ap valueOf (c .enum-told2 .given .1))
+returns-2 c = sym (ap (λ p. punctualityValue (caseOf p)) (c .enum-told2 .given .1))
 
 returns-3 : tie.Need-returns-3
 unfolding ofBits
-returns-3 c = sym (ap valueOf (c .enum-told3 .given .1))
+returns-3 c = sym (ap (λ p. punctualityValue (caseOf p)) (c .enum-told3 .given .1))
 
 returns-4 : tie.Need-returns-4
 returns-4 c = search needs
