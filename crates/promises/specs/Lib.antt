@@ -1,0 +1,5 @@
+pub mod Decoded
+pub mod Images
+pub mod Digits
+pub mod Told
+pub mod Shown
