@@ -3,3 +3,6 @@ pub mod Images
 pub mod Digits
 pub mod Told
 pub mod Shown
+pub mod Meant
+pub mod Outcomes
+pub mod Promises

@@ -8,14 +8,14 @@ use Prim.Native.Nat.{ℕ, _≤_, _<_}
 use native.Mathlib.Omega.{arith}
 use lib.ListN.{length, take}
 use lib.Dec.{leb, ltb}
-use Rattle.rules.specs.Lists.{keep, sum, any}
-use Rattle.rules.specs.Refusals.{Refusal, nowhere, Result, refuse, then}
+use Rattle.rules.specs.Lists.{keep, sum}
+use Rattle.rules.specs.Refusals.{Refusal, nowhere, Result, refuse}
 use Rattle.rules.specs.Refusals.Result.{refused, answer}
 use Rattle.rules.specs.Files.{Case, files}
 use Rattle.rules.specs.Turns.{State}
 use Rattle.rules.specs.Joint.{choices, weightOf, Entry, joint, weightAt}
 use Rattle.rules.specs.Listing.{notArrived, listing}
-use Rattle.rules.specs.Calls.{Run, runTo, stoppedRun, wholeRun, trainRun, Memory, textBytes, textOf, short, Lent, call, runCall, listingCall, figuresCall}
+use Rattle.rules.specs.Calls.{Run, stoppedRun, wholeRun, trainRun, Memory, textBytes, textOf, short, Lent, call, singleRun, runCall, listingCall, figuresCall}
 use Rattle.rules.specs.Figures.{figures}
 use Rattle.rules.specs.Demands.{Choice, Simulates, arrivesIn}
 use Rattle.theory_sound.specs.Accepted.{accepted-sound}
@@ -63,10 +63,22 @@ pub figures-comes : (cs bk : List ℕ) (k L : ℕ) (m : Memory)
 unfolding figuresCall
 figures-comes cs bk k L m = call-comes 0 (λ u. figures (u .of) (u .state .arrived) k L) (λ u. []) m (trainRun cs bk k)
 
--- what stands past the first 4,096 bytes of a file never changes the answer
+-- what stands past the first 4,096 bytes of a file never changes what a call comes to
+pub handed-single : (cs bk x : List ℕ) (k : ℕ) → singleRun (take 4096 cs) (take 4096 bk) x k ≡ singleRun cs bk x k
+unfolding singleRun
+handed-single cs bk x k = rw (files-window cs bk)
+
+pub handed-run : (cs bk : List ℕ) (t : ℕ) (m : Memory) → runCall (take 4096 cs) (take 4096 bk) t m ≡ runCall cs bk t m
+unfolding runCall stoppedRun
+handed-run cs bk t m = rw (files-window cs bk)
+
 pub handed-part : (cs bk : List ℕ) (m : Memory) → listingCall (take 4096 cs) (take 4096 bk) m ≡ listingCall cs bk m
 unfolding listingCall wholeRun
-handed-part cs bk m = ap (λ (r : Result Case). call textBytes (λ u. length (textOf u)) textOf m (then r (λ C. runTo (C .head .lastMinute) C))) (files-window cs bk)
+handed-part cs bk m = rw (files-window cs bk)
+
+pub handed-figures : (cs bk : List ℕ) (k L : ℕ) (m : Memory) → figuresCall (take 4096 cs) (take 4096 bk) k L m ≡ figuresCall cs bk k L m
+unfolding figuresCall trainRun
+handed-figures cs bk k L m = rw (files-window cs bk)
 
 -- ---- demands 2 and 3 of every run that was answered
 
