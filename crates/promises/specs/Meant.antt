@@ -9,8 +9,7 @@ use Rattle.rules.specs.Refusals.Result.{refused, answer}
 use Rattle.rules.specs.Files.{mostTrains, Case, files}
 use Rattle.rules.specs.Single.{single}
 use Rattle.rules.specs.Joint.{joint}
-use Rattle.theory_simulation.specs.View.{Choice, view}
-use Rattle.theory_simulation.specs.Simulation.{Simulates}
+use Rattle.rules.specs.Demands.{Choice, view, Simulates}
 use Rattle.theory_calls.specs.Decided.{refusalOf, full}
 use Rattle.theory_calls.specs.Counted.{brought}
 use Rattle.promises.specs.Decoded.{entriesIn, weightIn}

@@ -18,7 +18,7 @@ use Rattle.rules.specs.Calls.{Run, Memory, Lent, call, short, filled, rowImage,
 use Rattle.theory_sound.specs.Accepted.{accepted-sound}
 use Rattle.theory_sound.specs.Places.{files-told}
 use Rattle.theory_sound.specs.Runs.{Answered}
-use Rattle.theory_simulation.specs.View.{view}
+use Rattle.rules.specs.Demands.{view}
 use Rattle.theory_weights.specs.Room.{list-fits}
 use Rattle.theory_demands.specs.Demands.{demand-3, demand-2, demand-2-later, room-askers}
 use Rattle.theory_calls.specs.Memory.{cleared, written, call-short, call-refused, call-answered}

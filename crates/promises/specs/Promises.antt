@@ -17,7 +17,7 @@ use Rattle.rules.specs.Listing.{listing}
 use Rattle.rules.specs.Figures.{plan, Figures, figures}
 use Rattle.rules.specs.Calls.{Lent, textBytes, textOf, short, singleRun, stoppedRun, wholeRun, trainRun, runCall, listingCall, figuresCall}
 use Rattle.theory_sound.specs.Accepted.{accepted-sound}
-use Rattle.theory_simulation.specs.View.{Choice}
+use Rattle.rules.specs.Demands.{Choice}
 use Rattle.theory_calls.specs.Decided.{refusalOf, lateStop, missingTrain, stopped-decided, whole-decided, train-decided, SingleDecided, single-decided}
 use Rattle.theory_calls.specs.Decided.{SingleDecided as singles}
 use Rattle.theory_calls.specs.Counted.{countedListing, countedFigures, listing-counted, figures-counted}

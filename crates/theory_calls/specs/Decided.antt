@@ -1,30 +1,26 @@
 -- What decides a run: the files, then the call's arguments, then the room, and nothing else; each refusal comes exactly when its rule says.
 -- The cases are those of the definition, taken apart by the first result that decides. Assumes nothing.
-use mathlib.Core.Path.{_≡_, refl, sym, ap₂, _∙_}
-use mathlib.Core.Bool.{Bool, true, false, not, _||_, cond, false≢true}
-use mathlib.Core.List.{List, []}
+use mathlib.Core.Path.{_≡_, refl, _∙_}
+use mathlib.Core.Bool.{Bool, true, false, cond}
+use mathlib.Core.List.{List}
 use mathlib.Core.Option.{Option}
 use Prim.Native.Nat.{ℕ, _≤_, _<_}
 use native.Mathlib.Omega.{arith}
-use lib.ListN.{length, getD}
+use lib.ListN.{length}
 use lib.Dec.{leb, ltb}
-use borrow.Author.Tests.{eq-eqb, leb-true, leb-false, lt-leb}
-use Rattle.rules.specs.Lists.{any, below}
+use borrow.Author.Tests.{leb-true, leb-false}
+use Rattle.rules.specs.Lists.{any}
 use Rattle.rules.specs.Refusals.{Refusal, Result}
 use Rattle.rules.specs.Refusals.Result.{refused, answer}
 use Rattle.rules.specs.Files.{Case, files}
 use Rattle.rules.specs.Single.{arrival}
-use Rattle.rules.specs.Joint.{whole, firstList, jointRules, joint}
+use Rattle.rules.specs.Joint.{firstList, jointRules, joint}
 use Rattle.rules.specs.Calls.{Run, runTo, choiceBroken, noSuchTrain, singleRun, stoppedRun, wholeRun, trainRun}
 use Rattle.rules.specs.Demands.{Choice, passes, runLists}
-use Rattle.theory_sound.specs.Facts.{Sound}
 use Rattle.theory_sound.specs.Accepted.{accepted-sound}
-use Rattle.theory_lists.specs.Every.{every-more, any-none}
-use Rattle.theory_lists.specs.Below.{every-below}
-use Rattle.theory_simulation.specs.Covers.{covers-length}
-use Rattle.theory_simulation.specs.Start.{whole-length, choice-at}
 use Rattle.theory_simulation.specs.Choices.{unbroken-choice}
 use Rattle.theory_demands.specs.Demands.{room-askers}
+use Rattle.theory_demands.specs.Choices.{broken-no-choice}
 
 -- ---- the definitions
 
@@ -104,15 +100,6 @@ module _ (cs bk : List ℕ) where
 
 -- ---- the single run
 
--- refusal 15 and `Choice` say the same: a choice has the right count, and no index past its train's table
-pub choice-unbroken : (C : Case) → Sound C → (x : List ℕ) → Choice C x → choiceBroken C x ≡ false
-unfolding choiceBroken
-choice-unbroken C sound x c =
-    ap₂ (λ (a b : Bool). not a || b)
-    (eq-eqb (length x) (length (C .trains)) (omega (arith, covers-length (whole C) x c, whole-length C, sound .tabled)))
-    (any-none (λ k. leb (length (getD (C .tables) k [])) (getD x k 0)) (below (length (C .trains)))
-    (every-more _ _ (λ k l. lt-leb (length (getD (C .tables) k [])) (getD x k 0) (choice-at C sound x c k l)) (below (length (C .trains))) (every-below (length (C .trains)))))
-
 -- what the single run of choice x for train k comes to
 pub data SingleDecided (cs bk x : List ℕ) (k : ℕ) (r : Result (Option ℕ)) : Type 0 where
   -- the files are refused
@@ -133,7 +120,7 @@ single-decided cs bk x k = go (files cs bk) refl
     train C e c false h = by-run C e (unbroken-choice C (accepted-sound cs bk C e) x c) (leb-false (length (C .trains)) k h) (rw (e, c, h))
 
     choice : (C : Case) → files cs bk ≡ answer C → (b : Bool) → choiceBroken C x ≡ b → SingleDecided cs bk x k (singleRun cs bk x k)
-    choice C e true c = by-choice C e (λ z. false≢true (sym (choice-unbroken C (accepted-sound cs bk C e) x z) ∙ c)) (rw (e, c))
+    choice C e true c = by-choice C e (broken-no-choice C (accepted-sound cs bk C e) x c) (rw (e, c))
     choice C e false c = train C e c (leb (length (C .trains)) k) refl
 
     go : (R : Result Case) → files cs bk ≡ R → SingleDecided cs bk x k (singleRun cs bk x k)

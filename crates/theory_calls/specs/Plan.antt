@@ -13,7 +13,7 @@ use borrow.Author.Tests.{eqb-true, leb-true, leb-false}
 use Rattle.rules.specs.Lists.{tick, below, has}
 use Rattle.rules.specs.Refusals.Result.{answer}
 use Rattle.rules.specs.Files.{Track, Stop, Case, lastOf, repeats, files}
-use Rattle.rules.specs.Turns.{Place, same, Mark, block, Leg, leg, legs, trainAt, way, after, ahead, headIs, plannedOn, lastStation, elements, ended, asks, dueAgain, leaving, entered, arriving, served}
+use Rattle.rules.specs.Turns.{Place, same, Mark, block, Leg, leg, legs, trainAt, way, after, ahead, headIs, plannedOn, lastStation, elements, ended, asks, dueAgain, leaving, entered, Arrival, arriving, served}
 use Rattle.rules.specs.Turns.Place.{outside, station}
 use Rattle.rules.specs.Single.{firstArrival, waits, firstMarks, enters, serveTrain, singleRules, single, minuteOf, arrival}
 use Rattle.rules.specs.Joint.{choices, weightOf, joint, weightAt}
@@ -146,17 +146,21 @@ module _ (C : Case) (sound : Sound C) where
     every-one OnPlan (not (same (m .place) outside)) (block (m .train) (m .place) (t + C .head .safety)) (λ q r. absurd (false≢true (sym r))),
   )
 
-  arriving-plan : (t : ℕ) (e : Place) (m : Mark) → Asked C t e m → OnPlan m → Every (λ v. plan C (v .train) ≤ v .minute) (arriving C t e m)
+  -- an arrival is not before its train's plan
+  abbrev Planned : Arrival Mark → Type 0
+  Planned v = plan C (v .who .train) ≤ v .minute
+
+  arriving-plan : (t : ℕ) (e : Place) (m : Mark) → Asked C t e m → OnPlan m → Every Planned (arriving C t e m)
   unfolding arriving
   arriving-plan t e m a h =
-      every-one (λ v. plan C (v .train) ≤ v .minute) (same e (lastStation C (m .train))) _
+      every-one Planned (same e (lastStation C (m .train))) _
       (λ q. omega (arith, a .due, h (a .stood), toGo-last (lastStation C (m .train)) (ahead C (m .train) (m .place)) (subst (λ (p : Place). headIs p (ahead C (m .train) (m .place)) ≡ true) (same-true e (lastStation C (m .train)) q) (a .goes))))
 
   -- of the list and the arrivals
-  abbrev Kept : List Mark → List Mark → Type 0
-  Kept l v = Every OnPlan l × Every (λ a. plan C (a .train) ≤ a .minute) v
+  abbrev Kept : List Mark → List (Arrival Mark) → Type 0
+  Kept l v = Every OnPlan l × Every Planned v
 
-  serve-plan : (t : ℕ) (e : Place) (b : List Mark) (a : Mark) (c v : List Mark) → asks C t e a ≡ true → Kept (b ++ (a ∷ c)) v
+  serve-plan : (t : ℕ) (e : Place) (b : List Mark) (a : Mark) (c : List Mark) (v : List (Arrival Mark)) → asks C t e a ≡ true → Kept (b ++ (a ∷ c)) v
       → Kept (servedList (serveTrain C t e (b ++ (a ∷ c)) a) b c) (v ++ serveTrain C t e (b ++ (a ∷ c)) a .arrived)
   unfolding serveTrain
   serve-plan t e b a c v ask h = go (enters C e (b ++ (a ∷ c)))
@@ -169,16 +173,13 @@ module _ (C : Case) (sound : Sound C) where
           every-append OnPlan (b ++ r ++ c) s
           (every-append OnPlan (b ++ r) c (every-append OnPlan b r (every-left OnPlan b (a ∷ c) (h .0)) p) (every-right OnPlan b (a ∷ c) (h .0) .1)) q
 
-      late : Mark → Type 0
-      late w = plan C (w .train) ≤ w .minute
-
       go : (z : Bool) → Kept (servedList (cond z (served [] (entered C t e a) (arriving C t e a)) (served (a ∷ []) [] [])) b c)
           (v ++ cond z (served [] (entered C t e a) (arriving C t e a)) (served (a ∷ []) [] []) .arrived)
       go true = (
         around [] (entered C t e a) tt (entered-plan t e a (asked C t e a ask) own),
-        every-append late v (arriving C t e a) (h .1) (arriving-plan t e a (asked C t e a ask) own),
+        every-append Planned v (arriving C t e a) (h .1) (arriving-plan t e a (asked C t e a ask) own),
       )
-      go false = (around (a ∷ []) [] (own, tt) tt, every-append late v [] (h .1) tt)
+      go false = (around (a ∷ []) [] (own, tt) tt, every-append Planned v [] (h .1) tt)
 
   single-plan : (x : List ℕ) (m : ℕ) → Kept (single C x m .list) (single C x m .arrived)
   unfolding single singleRules firstMarks
@@ -193,14 +194,14 @@ module _ (C : Case) (sound : Sound C) where
 -- ---- arrivals
 
 -- what each arrival of train k has, its minute has
-minute-has : (P : ℕ → Type 0) (k : ℕ) (vs : List Mark) → Every (λ v. v .train ≡ k → P (v .minute)) vs → (t : ℕ) → minuteOf k vs ≡ some t → P t
+minute-has : (P : ℕ → Type 0) (k : ℕ) (vs : List (Arrival Mark)) → Every (λ v. v .who .train ≡ k → P (v .minute)) vs → (t : ℕ) → minuteOf k vs ≡ some t → P t
 minute-has P k [] h t e =
     let z : _≡_ {A = ℕ} 0 1 = cc in
     absurd (omega arith)
-minute-has P k (v ∷ vs) h t e = go (eqb (v .train) k) refl e (minute-has P k vs (h .1) t)
+minute-has P k (v ∷ vs) h t e = go (eqb (v .who .train) k) refl e (minute-has P k vs (h .1) t)
   where
-    go : (b : Bool) → eqb (v .train) k ≡ b → cond b (some (v .minute)) (minuteOf k vs) ≡ some t → (minuteOf k vs ≡ some t → P t) → P t
-    go true q e ih = let same : v .minute ≡ t = cc e in subst P same (h .0 (eqb-true (v .train) k q))
+    go : (b : Bool) → eqb (v .who .train) k ≡ b → cond b (some (v .minute)) (minuteOf k vs) ≡ some t → (minuteOf k vs ≡ some t → P t) → P t
+    go true q e ih = let same : v .minute ≡ t = cc e in subst P same (h .0 (eqb-true (v .who .train) k q))
     go false q e ih = ih e
 
 module _ (cs bk : List ℕ) (C : Case) (accepted : files cs bk ≡ answer C) where
@@ -209,7 +210,7 @@ module _ (cs bk : List ℕ) (C : Case) (accepted : files cs bk ≡ answer C) whe
   unfolding arrival
   arrival-plan x k t e =
       minute-has (λ u. plan C k ≤ u) k (single C x (C .head .lastMinute) .arrived)
-      (every-more (λ v. plan C (v .train) ≤ v .minute) (λ v. v .train ≡ k → plan C k ≤ v .minute)
+      (every-more (λ v. plan C (v .who .train) ≤ v .minute) (λ v. v .who .train ≡ k → plan C k ≤ v .minute)
       (λ v h q. subst (λ (j : ℕ). plan C j ≤ v .minute) q h) (single C x (C .head .lastMinute) .arrived)
       (single-plan C (accepted-sound cs bk C accepted) x (C .head .lastMinute) .1))
       t e
@@ -219,7 +220,7 @@ module _ (cs bk : List ℕ) (C : Case) (accepted : files cs bk ≡ answer C) whe
   unfolding arrival
   arrival-window x k t e =
       minute-has (λ u. u ≤ C .head .lastMinute) k (single C x (C .head .lastMinute) .arrived)
-      (every-more (λ v. v .minute ≤ C .head .lastMinute) (λ v. v .train ≡ k → v .minute ≤ C .head .lastMinute) (λ v h q. h)
+      (every-more (λ v. v .minute ≤ C .head .lastMinute) (λ v. v .who .train ≡ k → v .minute ≤ C .head .lastMinute) (λ v h q. h)
       (single C x (C .head .lastMinute) .arrived) (single-logged C x (C .head .lastMinute)))
       t e
 
