@@ -15,19 +15,19 @@ at-requires : tie.Need-at-requires
 at-requires c κs = search needs
 
 mul-end : tie.Need-mul-end
-mul-end c = let s = c .before .before .before .before .before .before .before .before .before .before .before in let looked = c .before .before .before .before .fill .ensures (s .pre .0 .of) (s .pre .0 .accepted) (s .pre .0 .sizes) in let few = room-few (s .args .case .now) (s .args .book .now) (s .args .stop) (s .pre .0) _ looked in omega (arith, c .at .ensures)
+mul-end c = let s = c .before .before .before .before .before .before .before .before .before .before .before in let looked = c .before .before .before .before .fill .ensures .1 (s .pre .0 .of) (s .pre .0 .accepted) (s .pre .0 .sizes) in let few = room-few (s .args .case .now) (s .args .book .now) (s .args .stop) (s .pre .0) _ looked in omega (arith, c .at .ensures)
 
 add-end : tie.Need-add-end
-add-end c = let s = c .before .before .before .before .before .before .before .before .before .before .before in let looked = c .before .before .before .before .fill .ensures (s .pre .0 .of) (s .pre .0 .accepted) (s .pre .0 .sizes) in let few = room-few (s .args .case .now) (s .args .book .now) (s .args .stop) (s .pre .0) _ looked in omega (arith, c .at .ensures)
+add-end c = let s = c .before .before .before .before .before .before .before .before .before .before .before in let looked = c .before .before .before .before .fill .ensures .1 (s .pre .0 .of) (s .pre .0 .accepted) (s .pre .0 .sizes) in let few = room-few (s .args .case .now) (s .args .book .now) (s .args .stop) (s .pre .0) _ looked in omega (arith, c .at .ensures)
 
 slice-relend-prefix-run : tie.Need-slice-relend-prefix-run
-slice-relend-prefix-run c = let s = c .before .before .before .before .before .before .before .before .before .before .before .before in let looked = c .before .before .before .before .before .fill .ensures (s .pre .0 .of) (s .pre .0 .accepted) (s .pre .0 .sizes) in let few = room-few (s .args .case .now) (s .args .book .now) (s .args .stop) (s .pre .0) _ looked in omega (arith, c .before .at .ensures, s .pre .1 .1)
+slice-relend-prefix-run c = let s = c .before .before .before .before .before .before .before .before .before .before .before .before in let looked = c .before .before .before .before .before .fill .ensures .1 (s .pre .0 .of) (s .pre .0 .accepted) (s .pre .0 .sizes) in let few = room-few (s .args .case .now) (s .args .book .now) (s .args .stop) (s .pre .0) _ looked in omega (arith, c .before .at .ensures, s .pre .1 .1)
 
 slice-aggregate-run : tie.Need-slice-aggregate-run
-slice-aggregate-run c = let s = c .before .before .before .before .before .before .before .before .before .before .before .before .before in let looked = c .before .before .before .before .before .before .fill .ensures (s .pre .0 .of) (s .pre .0 .accepted) (s .pre .0 .sizes) in let few = room-few (s .args .case .now) (s .args .book .now) (s .args .stop) (s .pre .0) _ looked in sym (length-take-le _ _ (omega (arith, c .before .before .at .ensures, s .pre .1 .1)))
+slice-aggregate-run c = let s = c .before .before .before .before .before .before .before .before .before .before .before .before .before in let looked = c .before .before .before .before .before .before .fill .ensures .1 (s .pre .0 .of) (s .pre .0 .accepted) (s .pre .0 .sizes) in let few = room-few (s .args .case .now) (s .args .book .now) (s .args .stop) (s .pre .0) _ looked in sym (length-take-le _ _ (omega (arith, c .before .before .at .ensures, s .pre .1 .1)))
 
 run-requires : tie.Need-run-requires
-run-requires c κs = let s = c .before .before .before .before .before .before .before .before .before .before .before .before .before .before in let looked = c .before .before .before .before .before .before .before .fill .ensures (s .pre .0 .of) (s .pre .0 .accepted) (s .pre .0 .sizes) in let few = room-few (s .args .case .now) (s .args .book .now) (s .args .stop) (s .pre .0) _ looked in let n = length-take-le (c .before .before .before .at .result * 2 + 2) (s .args .list .now) (omega (arith, c .before .before .before .at .ensures, s .pre .1 .1)) in (omega (arith, n, c .before .before .before .at .ensures), omega (arith, n, c .before .before .before .at .ensures), stop-few (s .args .case .now) (s .args .book .now) (s .args .stop) (s .pre .0) _ looked, small-tables (s .args .case .now) (s .args .book .now) (s .args .stop) (s .pre .0) _ looked (λ i. omega (arith, c .before .before .before .before .before .before .before .before .before .before .before .before .before .shared-slice-known .given i)) (λ i. omega (arith, c .before .before .before .before .before .before .before .before .before .before .before .before .shared-slice-known2 .given i)), ways-tables (s .args .case .now) (s .args .book .now) (s .args .stop) (s .pre .0) _ looked, s .pre .1 .3)
+run-requires c κs = let s = c .before .before .before .before .before .before .before .before .before .before .before .before .before .before in let looked = c .before .before .before .before .before .before .before .fill .ensures .1 (s .pre .0 .of) (s .pre .0 .accepted) (s .pre .0 .sizes) in let few = room-few (s .args .case .now) (s .args .book .now) (s .args .stop) (s .pre .0) _ looked in let n = length-take-le (c .before .before .before .at .result * 2 + 2) (s .args .list .now) (omega (arith, c .before .before .before .at .ensures, s .pre .1 .1)) in (omega (arith, n, c .before .before .before .at .ensures), omega (arith, n, c .before .before .before .at .ensures), stop-few (s .args .case .now) (s .args .book .now) (s .args .stop) (s .pre .0) _ looked, small-tables (s .args .case .now) (s .args .book .now) (s .args .stop) (s .pre .0) _ looked (λ i. omega (arith, c .before .before .before .before .before .before .before .before .before .before .before .before .before .shared-slice-known .given i)) (λ i. omega (arith, c .before .before .before .before .before .before .before .before .before .before .before .before .shared-slice-known2 .given i)), ways-tables (s .args .case .now) (s .args .book .now) (s .args .stop) (s .pre .0) _ looked, s .pre .1 .3)
 
 same-length : tie.Need-same-length
 same-length c = search needs
@@ -39,7 +39,7 @@ same-length-3 : tie.Need-same-length-3
 same-length-3 c = search needs
 
 returns : tie.Need-returns
-returns c = let s = c .before .before .before .before .before .before .before .before .before .before .before .before .before .before .before .before .before .before .before .before in let looked = c .before .before .before .before .before .before .before .before .before .before .before .before .before .fill .ensures (s .pre .0 .of) (s .pre .0 .accepted) (s .pre .0 .sizes) in let few = room-few (s .args .case .now) (s .args .book .now) (s .args .stop) (s .pre .0) _ looked in let n = length-take-le (c .before .before .before .before .before .before .before .before .before .at .result * 2 + 2) (s .args .list .now) (omega (arith, c .before .before .before .before .before .before .before .before .before .at .ensures, s .pre .1 .1)) in run-ran (s .args .case .now) (s .args .book .now) (s .args .stop) (s .pre .0) _ looked (λ i. omega (arith, c .before .before .before .before .before .before .before .before .before .before .before .before .before .before .before .before .before .before .before .shared-slice-known .given i)) (λ i. omega (arith, c .before .before .before .before .before .before .before .before .before .before .before .before .before .before .before .before .before .before .shared-slice-known2 .given i)) _ _ _ (c .before .before .before .before .before .run .ensures) (s .pre .1 .2) (c .before .before .before .before .before .run .kept .1 .0 ∙ n) (omega (arith, c .before .before .before .before .before .before .before .before .before .at .ensures)) (c .before .before .before .before .before .run .kept .1 .1 .0 ∙ s .pre .1 .2) (λ q. refl) (λ f. absurd (f (c .if1 .taken)))
+returns c = let s = c .before .before .before .before .before .before .before .before .before .before .before .before .before .before .before .before .before .before .before .before in let looked = c .before .before .before .before .before .before .before .before .before .before .before .before .before .fill .ensures .1 (s .pre .0 .of) (s .pre .0 .accepted) (s .pre .0 .sizes) in let few = room-few (s .args .case .now) (s .args .book .now) (s .args .stop) (s .pre .0) _ looked in let n = length-take-le (c .before .before .before .before .before .before .before .before .before .at .result * 2 + 2) (s .args .list .now) (omega (arith, c .before .before .before .before .before .before .before .before .before .at .ensures, s .pre .1 .1)) in run-ran (s .args .case .now) (s .args .book .now) (s .args .stop) (s .pre .0) _ looked (λ i. omega (arith, c .before .before .before .before .before .before .before .before .before .before .before .before .before .before .before .before .before .before .before .shared-slice-known .given i)) (λ i. omega (arith, c .before .before .before .before .before .before .before .before .before .before .before .before .before .before .before .before .before .before .shared-slice-known2 .given i)) _ _ _ (c .before .before .before .before .before .run .ensures) (s .pre .1 .2) (c .before .before .before .before .before .run .kept .1 .0 ∙ n) (omega (arith, c .before .before .before .before .before .before .before .before .before .at .ensures)) (c .before .before .before .before .before .run .kept .1 .1 .0 ∙ s .pre .1 .2) (λ q. refl) (λ f. absurd (f (c .if1 .taken)))
 
 same-length-4 : tie.Need-same-length-4
 same-length-4 c = search needs
@@ -51,7 +51,7 @@ same-length-6 : tie.Need-same-length-6
 same-length-6 c = search needs
 
 returns-2 : tie.Need-returns-2
-returns-2 c = let s = c .before .before .before .before .before .before .before .before .before .before .before .before .before .before .before .before .before .before .before .before in let looked = c .before .before .before .before .before .before .before .before .before .before .before .before .before .fill .ensures (s .pre .0 .of) (s .pre .0 .accepted) (s .pre .0 .sizes) in let few = room-few (s .args .case .now) (s .args .book .now) (s .args .stop) (s .pre .0) _ looked in let n = length-take-le (c .before .before .before .before .before .before .before .before .before .at .result * 2 + 2) (s .args .list .now) (omega (arith, c .before .before .before .before .before .before .before .before .before .at .ensures, s .pre .1 .1)) in run-ran (s .args .case .now) (s .args .book .now) (s .args .stop) (s .pre .0) _ looked (λ i. omega (arith, c .before .before .before .before .before .before .before .before .before .before .before .before .before .before .before .before .before .before .before .shared-slice-known .given i)) (λ i. omega (arith, c .before .before .before .before .before .before .before .before .before .before .before .before .before .before .before .before .before .before .shared-slice-known2 .given i)) _ _ _ (c .before .before .before .before .before .run .ensures) (s .pre .1 .2) (c .before .before .before .before .before .run .kept .1 .0 ∙ n) (omega (arith, c .before .before .before .before .before .before .before .before .before .at .ensures)) (c .before .before .before .before .before .run .kept .1 .1 .0 ∙ s .pre .1 .2) (λ q. absurd (c .if1 .left q)) (λ f. refl)
+returns-2 c = let s = c .before .before .before .before .before .before .before .before .before .before .before .before .before .before .before .before .before .before .before .before in let looked = c .before .before .before .before .before .before .before .before .before .before .before .before .before .fill .ensures .1 (s .pre .0 .of) (s .pre .0 .accepted) (s .pre .0 .sizes) in let few = room-few (s .args .case .now) (s .args .book .now) (s .args .stop) (s .pre .0) _ looked in let n = length-take-le (c .before .before .before .before .before .before .before .before .before .at .result * 2 + 2) (s .args .list .now) (omega (arith, c .before .before .before .before .before .before .before .before .before .at .ensures, s .pre .1 .1)) in run-ran (s .args .case .now) (s .args .book .now) (s .args .stop) (s .pre .0) _ looked (λ i. omega (arith, c .before .before .before .before .before .before .before .before .before .before .before .before .before .before .before .before .before .before .before .shared-slice-known .given i)) (λ i. omega (arith, c .before .before .before .before .before .before .before .before .before .before .before .before .before .before .before .before .before .before .shared-slice-known2 .given i)) _ _ _ (c .before .before .before .before .before .run .ensures) (s .pre .1 .2) (c .before .before .before .before .before .run .kept .1 .0 ∙ n) (omega (arith, c .before .before .before .before .before .before .before .before .before .at .ensures)) (c .before .before .before .before .before .run .kept .1 .1 .0 ∙ s .pre .1 .2) (λ q. absurd (c .if1 .left q)) (λ f. refl)
 
 pub run-to-spec : {M : Type 1} → statement M
 run-to-spec =
