@@ -11,9 +11,12 @@ const HANDED: u64 = 4_096;
 
 fn main() -> ExitCode {
     let arguments: Vec<String> = std::env::args().skip(1).collect();
-    let [case, book] = arguments.as_slice() else {
-        eprintln!("use: second CASE BOOK");
-        return ExitCode::from(2);
+    let (case, book) = match arguments.as_slice() {
+        [case, book] => (case, book),
+        _ => {
+            eprintln!("use: second CASE BOOK");
+            return ExitCode::from(2);
+        }
     };
     match first_bytes(case).and_then(|case| print(&case, &book_bytes(book))) {
         Ok(()) => ExitCode::SUCCESS,

@@ -16,7 +16,8 @@ const TWO: [Memory; 2] = [Memory::Rows, Memory::Weights];
 type Refused = (u16, u16, u32);
 
 pub fn every_refusal(tally: &mut Tally) {
-    for (what, files, refused) in of_files() {
+    let of_files = [of_fields(), of_levels(), of_trains()].concat();
+    for (what, files, refused) in of_files {
         tally.expect(all_refuse(&files, refused), || format!("refused: {what}"));
     }
     for (what, holds) in of_calls() {
@@ -31,9 +32,11 @@ fn with_book(book: &[u8]) -> Files {
     Files { case, book }
 }
 
-/// One fault each, in the case and in the book.
-fn of_files() -> Vec<(&'static str, Files, Refused)> {
-    let tables: Vec<u8> = (0..9).flat_map(|of| [5, 0, 3, of, 0, 100]).collect();
+/// A fault of the files: what it is, the files, and the refusal.
+type Faulty = (&'static str, Files, Refused);
+
+/// Faults of a field's header, tag, place and length.
+fn of_fields() -> Vec<Faulty> {
     vec![
         ("1, a header", shift(|case| case.push(5)), (1, 0, 60)),
         ("1, a body", shift(|case| case.truncate(59)), (1, 0, 52)),
@@ -63,6 +66,13 @@ fn of_files() -> Vec<(&'static str, Files, Refused)> {
             with_book(&[5, 0, 4, 1, 0, 100, 1]),
             (4, 1, 0),
         ),
+    ]
+}
+
+/// Faults of counts, ranges and tracks.
+fn of_levels() -> Vec<Faulty> {
+    let tables: Vec<u8> = (0..9).flat_map(|of| [5, 0, 3, of, 0, 100]).collect();
+    vec![
         (
             "5, P12: the empty case",
             shift(|case| case.clear()),
@@ -79,6 +89,12 @@ fn of_files() -> Vec<(&'static str, Files, Refused)> {
         ("6, a track", shift(|case| case[21] = 0), (6, 0, 16)),
         ("7, an unknown end", shift(|case| case[20] = 2), (7, 0, 16)),
         ("7, equal ends", shift(|case| case[20] = 0), (7, 0, 16)),
+    ]
+}
+
+/// Faults of trains and tables.
+fn of_trains() -> Vec<Faulty> {
+    vec![
         (
             "8, an unknown station",
             shift(|case| case[27] = 2),

@@ -89,8 +89,34 @@ fn add(bytes: &mut Vec<u8>, (case, book): &Pair) {
     bytes.extend(book);
 }
 
+/// A case with an empty book.
+fn only(case: Vec<u8>) -> Pair {
+    (case, Vec::new())
+}
+
 /// The ends of the ranges: empty files, one byte, long lengths, one too many of each kind, times and weights at their ends.
 fn hand_made() -> Vec<Pair> {
+    [first_fields(), whole_cases()].concat()
+}
+
+/// Cases that end in their first fields.
+fn first_fields() -> Vec<Pair> {
+    vec![
+        only(Vec::new()),
+        only(vec![1]),
+        only(vec![9]),
+        only(vec![1, 0]),
+        only(vec![1, 0, 5]),
+        only(vec![1, 255, 255]),
+        only(vec![4, 255, 255]),
+        only(head(20, 1, 1024)),
+        only([head(20, 1, 1024), head(20, 1, 1024)].concat()),
+        only([head(20, 1, 1024), station(1)].concat()),
+    ]
+}
+
+/// Cases with stations and a track, and books.
+fn whole_cases() -> Vec<Pair> {
     let ground = [head(20, 1, 1024), station(1), station(1), track(0, 1, 1)].concat();
     let ride = train(1, 1, &[(0, 2, 3), (1, 6, 7)]);
     let delays = table(1, &[(0, 60), (3, 40)]);
@@ -103,18 +129,7 @@ fn hand_made() -> Vec<Pair> {
     let late = train(1, 1, &[(0, 65535, 65535), (1, 65535, 65535)]);
     let heavy = table(1, &[(0, 255), (1, 101)]);
     let case = with(&[&ride, &delays]);
-    let only = |case: Vec<u8>| (case, Vec::new());
     vec![
-        only(Vec::new()),
-        only(vec![1]),
-        only(vec![9]),
-        only(vec![1, 0]),
-        only(vec![1, 0, 5]),
-        only(vec![1, 255, 255]),
-        only(vec![4, 255, 255]),
-        only(head(20, 1, 1024)),
-        only([head(20, 1, 1024), head(20, 1, 1024)].concat()),
-        only([head(20, 1, 1024), station(1)].concat()),
         only(with(&[&[2, 255, 255]])),
         only(with(&[&station(1)])),
         only([head(20, 1, 1024), many(station(1), 25)].concat()),

@@ -12,23 +12,31 @@ fn main() -> ExitCode {
         .skip(1)
         .map(|word| word.parse().ok())
         .collect();
-    let [Some(seed), Some(count)] = arguments.as_slice() else {
-        eprintln!("use: vectors SEED COUNT");
-        return ExitCode::from(2);
+    let lines = match arguments.as_slice() {
+        [Some(seed), Some(count)] => drawn(*seed, *count),
+        _ => {
+            eprintln!("use: vectors SEED COUNT");
+            return ExitCode::from(2);
+        }
     };
-    let mut chance = Chance::new(*seed);
+    match io::stdout().write_all(lines.as_bytes()) {
+        Ok(()) => ExitCode::SUCCESS,
+        Err(_) => ExitCode::FAILURE,
+    }
+}
+
+/// The vectors of the inputs drawn from a seed.
+fn drawn(seed: u64, count: u64) -> String {
+    let mut chance = Chance::new(seed);
     let mut lines = String::new();
-    for _ in 0..*count {
+    for _ in 0..count {
         let files = draw(&mut chance);
         for line in vectors(&mut chance, &files) {
             lines.push_str(&line);
             lines.push('\n');
         }
     }
-    match io::stdout().write_all(lines.as_bytes()) {
-        Ok(()) => ExitCode::SUCCESS,
-        Err(_) => ExitCode::FAILURE,
-    }
+    lines
 }
 
 /// Draws an input: two thirds sound small cases, one third damaged ones.
