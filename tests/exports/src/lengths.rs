@@ -1,11 +1,10 @@
 //! Lent memory of every length: too short it stays as it was, and of longer memory only the required part changes.
 
-use crate::called::{bits, Exports, Linked};
-use crate::compare::figures_refused;
+use crate::called::{Exports, Linked};
 use crate::example::shift;
 use crate::memory::Lent;
+use crate::refusals::{refusal, refusal_of};
 use crate::tally::Tally;
-use exports::Answer;
 use inputs::generator::Files;
 use inputs::questions::{Call, Memory, MEMORIES};
 use second::refusal::{COUNT, MEMORY, NO_TRAIN, ROOM, STOP};
@@ -83,32 +82,34 @@ fn holds(case: &Case, memory: Memory, length: usize) -> bool {
     let mut lent = Lent::new(lengths, 0x3C);
     let refusal = ask(case, &mut lent);
     if length < memory.required() {
-        return refusal == Some(MEMORY) && lent.untouched();
+        return refusal == Some(MEMORY.into()) && lent.untouched();
     }
     let memories = case.call.memories();
     match case.refusal {
         0 => refusal == Some(0) && filled(&lent, memories),
-        number => refusal == Some(number) && lent.zero(memories),
+        number => refusal == Some(number.into()) && lent.zero(memories),
     }
 }
 
-/// The number of the refusal, if the answer is nothing but that.
-fn ask(case: &Case, lent: &mut Lent) -> Option<u8> {
-    let answer = match &case.call {
+/// The number of the refusal, 0 for none, if a refusal is all that is answered.
+fn ask(case: &Case, lent: &mut Lent) -> Option<u16> {
+    let (answered, refusal) = match &case.call {
         Call::Figures { train, limit } => {
             let figures = Linked.figures(&case.files, *train as u64, *limit, lent);
-            let refused = Answer {
-                refusal: figures.refusal,
-                ..Answer::default()
-            };
-            let alone = bits(&figures) == bits(&figures_refused(&refused));
-            return (figures.refusal == 0 || alone).then_some(figures.refusal as u8);
+            (figures.refusal == 0, refusal_of(&figures))
         }
-        Call::Run { stop } => Linked.run(&case.files, *stop as u64, lent),
-        _ => Linked.listing(&case.files, lent),
+        call => {
+            let answer = match call {
+                Call::Run { stop } => Linked.run(&case.files, *stop as u64, lent),
+                _ => Linked.listing(&case.files, lent),
+            };
+            (answer.refusal == 0, refusal(answer))
+        }
     };
-    let alone = (answer.file, answer.place, answer.value) == (0, 0, 0);
-    (answer.refusal == 0 || alone).then_some(answer.refusal as u8)
+    match answered {
+        true => Some(0),
+        false => refusal,
+    }
 }
 
 /// Whether the memories hold what the same call leaves in memory that is just enough, and no other byte has changed.

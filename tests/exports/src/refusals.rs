@@ -5,7 +5,7 @@ use crate::compare::figures_refused;
 use crate::example::shift;
 use crate::memory::Lent;
 use crate::tally::Tally;
-use exports::Answer;
+use exports::{Answer, TrainFigures};
 use inputs::generator::Files;
 use inputs::questions::{Memory, MEMORIES};
 
@@ -152,71 +152,79 @@ fn of_calls() -> Vec<(&'static str, bool)> {
     let broken = shift(|case| case.truncate(59));
     let single = |choice: &[u8], train| refusal(Linked.single(&whole, choice, train));
     vec![
-        ("15, too few", single(&[0], 0) == 15),
-        ("15, too many", single(&[0, 0, 0], 0) == 15),
-        ("15, 256 too many", single(&[0; 258], 0) == 15),
-        ("15, past the table", single(&[0, 2], 0) == 15),
-        ("15 before 16", single(&[0, 2], 2) == 15),
-        ("16, single", single(&[0, 0], 2) == 16),
-        ("16, single, far", single(&[0, 0], 1 << 32) == 16),
-        ("16, figures", figures(&whole, 2) == 16),
-        ("16, figures, far", figures(&whole, 1 << 32) == 16),
-        ("16 before 12", figures(&small, 2) == 16),
-        ("17", run(&whole, 21) == 17),
-        ("17, far", run(&whole, 1 << 32) == 17),
-        ("17 before 12", run(&small, 21) == 17),
-        ("12, run", run(&small, 20) == 12),
-        ("12, listing", listing(&small) == 12),
-        ("12, figures", figures(&small, 0) == 12),
-        ("14 before the files, run", short(&broken, 0) == [14; 3]),
-        ("14 before the files, weights", short(&broken, 1) == [14; 3]),
-        ("14 before the arguments", short(&whole, 0) == [14; 3]),
-        ("14 before 12", short(&small, 1) == [14; 3]),
+        ("15, too few", single(&[0], 0) == Some(15)),
+        ("15, too many", single(&[0, 0, 0], 0) == Some(15)),
+        ("15, 256 too many", single(&[0; 258], 0) == Some(15)),
+        ("15, past the table", single(&[0, 2], 0) == Some(15)),
+        ("15 before 16", single(&[0, 2], 2) == Some(15)),
+        ("16, single", single(&[0, 0], 2) == Some(16)),
+        ("16, single, far", single(&[0, 0], 1 << 32) == Some(16)),
+        ("16, figures", figures(&whole, 2) == Some(16)),
+        ("16, figures, far", figures(&whole, 1 << 32) == Some(16)),
+        ("16 before 12", figures(&small, 2) == Some(16)),
+        ("17", run(&whole, 21) == Some(17)),
+        ("17, far", run(&whole, 1 << 32) == Some(17)),
+        ("17 before 12", run(&small, 21) == Some(17)),
+        ("12, run", run(&small, 20) == Some(12)),
+        ("12, listing", listing(&small) == Some(12)),
+        ("12, figures", figures(&small, 0) == Some(12)),
+        (
+            "14 before the files, run",
+            short(&broken, 0) == Some([14; 3]),
+        ),
+        (
+            "14 before the files, weights",
+            short(&broken, 1) == Some([14; 3]),
+        ),
+        ("14 before the arguments", short(&whole, 0) == Some([14; 3])),
+        ("14 before 12", short(&small, 1) == Some([14; 3])),
     ]
 }
 
-/// The number of an answer that has file and place 0, and no value if it is refused.
-fn refusal(answer: Answer) -> u16 {
-    assert!((answer.file, answer.place) == (0, 0));
-    assert!(answer.refusal == 0 || answer.value == 0);
-    answer.refusal
+/// The number of a refusal, if the answer is nothing but that.
+pub fn refusal(answer: Answer) -> Option<u16> {
+    let alone = (answer.file, answer.place, answer.value) == (0, 0, 0);
+    alone.then_some(answer.refusal)
 }
 
-fn run(files: &Files, stop: u64) -> u16 {
-    let mut lent = Lent::exact();
-    let number = refusal(Linked.run(files, stop, &mut lent));
-    assert!(lent.zero(&TWO));
-    number
-}
-
-fn listing(files: &Files) -> u16 {
-    let mut lent = Lent::exact();
-    let number = refusal(Linked.listing(files, &mut lent));
-    assert!(lent.zero(&MEMORIES));
-    number
-}
-
-fn figures(files: &Files, train: u64) -> u16 {
-    let mut lent = Lent::exact();
-    let figures = Linked.figures(files, train, 0, &mut lent);
+/// The same of figures.
+pub fn refusal_of(figures: &TrainFigures) -> Option<u16> {
     let refused = Answer {
         refusal: figures.refusal,
         ..Answer::default()
     };
-    assert!(bits(&figures) == bits(&figures_refused(&refused)) && lent.zero(&TWO));
-    figures.refusal
+    let alone = bits(figures) == bits(&figures_refused(&refused));
+    alone.then_some(figures.refusal)
 }
 
-/// The refusals of the run, the listing and the figures with arguments past all and one memory a byte too short.
-fn short(files: &Files, memory: usize) -> [u16; 3] {
+/// The refusal of a run that has set its memory to zero.
+fn run(files: &Files, stop: u64) -> Option<u16> {
+    let mut lent = Lent::exact();
+    let number = refusal(Linked.run(files, stop, &mut lent));
+    number.filter(|_| lent.zero(&TWO))
+}
+
+fn listing(files: &Files) -> Option<u16> {
+    let mut lent = Lent::exact();
+    let number = refusal(Linked.listing(files, &mut lent));
+    number.filter(|_| lent.zero(&MEMORIES))
+}
+
+fn figures(files: &Files, train: u64) -> Option<u16> {
+    let mut lent = Lent::exact();
+    let number = refusal_of(&Linked.figures(files, train, 0, &mut lent));
+    number.filter(|_| lent.zero(&TWO))
+}
+
+/// The refusals of the run, the listing and the figures, with arguments past all and one memory a byte too short, if they write nothing.
+fn short(files: &Files, memory: usize) -> Option<[u16; 3]> {
     let mut lengths = MEMORIES.map(Memory::required);
     lengths[memory] -= 1;
     let mut lent = Lent::new(lengths, 0x5A);
     let numbers = [
-        refusal(Linked.run(files, u64::MAX, &mut lent)),
-        refusal(Linked.listing(files, &mut lent)),
-        Linked.figures(files, u64::MAX, 0, &mut lent).refusal,
+        refusal(Linked.run(files, u64::MAX, &mut lent))?,
+        refusal(Linked.listing(files, &mut lent))?,
+        refusal_of(&Linked.figures(files, u64::MAX, 0, &mut lent))?,
     ];
-    assert!(lent.untouched());
-    numbers
+    lent.untouched().then_some(numbers)
 }
