@@ -17,26 +17,21 @@ struct Case {
     refusal: u8,
 }
 
+/// How many bytes more than is required are lent at most.
+const MORE: usize = 40;
+
 /// Puts every call to memory of every length, answered and refused.
 pub fn every_length(tally: &mut Tally) {
     for case in cases() {
         for memory in case.call.memories() {
-            for length in lengths(memory.required()) {
-                let holds = holds(&case, *memory, length);
-                let what = case.what;
-                tally.expect(holds, || format!("{what}, {length} bytes of {memory:?}"));
+            let what = format!("failed: {}: {memory:?}", case.what);
+            tally.expect(too_short(&case, *memory), || format!("{what} too short"));
+            for more in 0..=MORE {
+                let holds = enough(&case, *memory, more);
+                tally.expect(holds, || format!("{what}, {more} bytes more"));
             }
         }
     }
-}
-
-/// Lengths from nothing to more than is required: all near the ends, some between.
-fn lengths(required: usize) -> Vec<usize> {
-    let between = (20..required - 20).step_by(997);
-    (0..20)
-        .chain(between)
-        .chain(required - 20..required + 40)
-        .collect()
 }
 
 /// Answered and refused: by the files, by the arguments, by the room.
@@ -75,15 +70,23 @@ fn cases() -> Vec<Case> {
     ]
 }
 
-/// Whether a call with so many bytes of one memory, and just enough of the others, does what it must.
-fn holds(case: &Case, memory: Memory, length: usize) -> bool {
+/// Whether a call is refused 14 for each length of a memory that is too short, and has changed no byte after all of them.
+fn too_short(case: &Case, memory: Memory) -> bool {
+    let mut lent = Lent::exact();
+    let mut lengths = 0..memory.required();
+    let refused = lengths.all(|length| {
+        lent.shorten(memory, length);
+        ask(case, &mut lent) == Some(MEMORY.into())
+    });
+    refused && lent.untouched()
+}
+
+/// Whether a call with so many bytes more of a memory than is required does what it must.
+fn enough(case: &Case, memory: Memory, more: usize) -> bool {
     let mut lengths = MEMORIES.map(Memory::required);
-    lengths[memory as usize] = length;
+    lengths[memory as usize] += more;
     let mut lent = Lent::new(lengths, 0x3C);
     let refusal = ask(case, &mut lent);
-    if length < memory.required() {
-        return refusal == Some(MEMORY.into()) && lent.untouched();
-    }
     let memories = case.call.memories();
     match case.refusal {
         0 => refusal == Some(0) && filled(&lent, memories),
@@ -112,7 +115,8 @@ fn ask(case: &Case, lent: &mut Lent) -> Option<u16> {
     }
 }
 
-/// Whether the memories hold what the same call leaves in memory that is just enough, and no other byte has changed.
+/// Whether the memories hold what the listing leaves in memory that is just enough, as the run to the last minute and the figures do, and no other
+/// byte has changed.
 fn filled(lent: &Lent, memories: &[Memory]) -> bool {
     let mut exact = Lent::exact();
     Linked.listing(&shift(|_| {}), &mut exact);

@@ -84,6 +84,16 @@ impl Lent {
         Lent::new(MEMORIES.map(Memory::required), 0xA5)
     }
 
+    /// Lends only so many bytes of a memory.
+    pub fn shorten(&mut self, memory: Memory, length: usize) {
+        let of = match memory {
+            Memory::Rows => &mut self.rows,
+            Memory::Weights => &mut self.weights,
+            Memory::Text => &mut self.text,
+        };
+        of.lent = length;
+    }
+
     pub fn of(&self, memory: Memory) -> &Watched {
         match memory {
             Memory::Rows => &self.rows,
