@@ -2,7 +2,7 @@
 
 use std::process::ExitCode;
 
-/// How many of the most differences are printed.
+/// How many of the failures are printed.
 const SHOWN: usize = 20;
 
 #[derive(Default)]
@@ -12,7 +12,7 @@ pub struct Tally {
 }
 
 impl Tally {
-    /// Counts one check, and says what failed; of very many failures only the first are told.
+    /// Counts one check, and says what failed.
     pub fn expect(&mut self, holds: bool, what: impl FnOnce() -> String) {
         if holds {
             self.passed += 1;
