@@ -9,5 +9,6 @@ pub mod Listing
 pub mod Figures
 pub mod Answers
 pub mod Calls
+pub mod Program
 pub mod Demands
 pub mod Points

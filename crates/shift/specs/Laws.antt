@@ -12,13 +12,14 @@ use Rattle.rules.specs.Files.{Case, files}
 use Rattle.rules.specs.Joint.{joint}
 use Rattle.rules.specs.Listing.{decimal, line, refusedWord, refusedLine}
 use Rattle.rules.specs.Calls.{Run, runTo, wholeRun, textOf, filled, Lent, lent, listingCall}
+use Rattle.rules.specs.Program.{textFor, printed}
 use Rattle.theory_sound.specs.Places.{files-told}
 use Rattle.theory_lists.specs.Writes.{Put}
 use Rattle.out_listing.specs.Suffices.{decimal-most}
 use Rattle.desk.specs.declared.Answer.{Answer}
 use Rattle.desk.specs.Answers.{answerOf, lentThree, GivesText}
 use Rattle.desk.specs.Ends.{long, call-long}
-use Rattle.shift.specs.Shift.{textFor, printed, Prints}
+use Rattle.shift.specs.Shift.{Prints}
 
 -- a refusal has a number
 whole-told : (cs bk : List ℕ) (r : Refusal) → wholeRun cs bk ≡ refused r → 1 ≤ r .number

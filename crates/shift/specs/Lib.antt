@@ -1,2 +1,3 @@
 pub mod Shift
 pub mod Laws
+pub mod Handed
