@@ -37,7 +37,7 @@ use Rattle.promises.specs.Outcomes.{call-outcome, outcome-told, outcome-
 pub data SinglePromise (cs bk x : List ℕ) (k : ℕ) (a : Answer) : Type 0 where
   -- the first refusal of the files
   refuses-files : (f : Refusal) → files cs bk ≡ refused f → a ≡ refusedWith f → SinglePromise cs bk x k a
-  -- 15: it takes no delay of each train's table
+  -- 15: the choice has a wrong count, or an index past its train's table
   refuses-choice : (C : Case) → files cs bk ≡ answer C → (Choice C x → ⊥) → a ≡ refusedWith (refusalOf 15) → SinglePromise cs bk x k a
   -- 16: there is no such train
   refuses-train : (C : Case) → files cs bk ≡ answer C → Choice C x → length (C .trains) ≤ k → a ≡ refusedWith (refusalOf 16) → SinglePromise cs bk x k a
@@ -65,91 +65,111 @@ single-promise cs bk x k {a} g = go (single-decided cs bk x k)
 
 -- ---- the run, the listing and the figures, for files of bytes
 
-module _ (cs bk : List ℕ) (p : Bytes cs) (q : Bytes bk) where
-  -- `lampreysong_run` to minute `stop`. Refused 14, it touches nothing. Refused otherwise, it tells the refusal, and the required memory is 0. Answered, it tells the
-  -- number of entries; the rows are those of demand 3 and the weights those of demand 2.
-  pub run-promise : (stop : ℕ) (rows weights : List ℕ) {a : Answer} {rows′ weights′ : List ℕ} → RunGives cs bk stop rows weights a rows′ weights′
-      → Outcome cs bk (short 0 (lentTwo rows weights)) (lateStop stop) (λ C. stop)
+module _ (cs bk : List ℕ) where
+  -- what `lampreysong_run` to minute `stop` answers: the number of entries; the rows are those of demand 3 and the weights those of demand 2
+  abbrev pub RunAnswer : ℕ → List ℕ → List ℕ → Answer → List ℕ → List ℕ → Case → Type 0
+  RunAnswer stop rows weights a rows′ weights′ C =
+      (a ≡ answered (length (joint C stop .list))) × Meant C stop (length (joint C stop .list)) rows weights rows′ weights′
+
+  -- refused 14, it touches nothing; refused otherwise, it tells the refusal, and the memory required is 0
+  abbrev pub RunPromise : ℕ → List ℕ → List ℕ → Answer → List ℕ → List ℕ → Type 0
+  RunPromise stop rows weights a rows′ weights′ =
+      Outcome cs bk (short 0 (lentTwo rows weights)) (lateStop stop) (λ C. stop)
       ((a ≡ refusedWith (refusalOf 14)) × (rows′ ≡ rows) × (weights′ ≡ weights))
       (λ f. (a ≡ refusedWith f) × (1 ≤ f .number) × Cleared 16384 rows rows′ × Cleared 40320 weights weights′)
-      (λ C. (a ≡ answered (length (joint C stop .list))) × Meant C stop (length (joint C stop .list)) rows weights rows′ weights′)
-  unfolding runCall
-  run-promise stop rows weights g =
-      outcome-told
-      (gives-same answerOf (lentTwo rows weights) g)
-      (gives-cleared answerOf (lentTwo rows weights) g 0)
-      (λ C e b r. gives-meant answerOf (lentTwo rows weights) g cs bk p q C e stop (stop-in stop C b) r 0 (length (joint C stop .list)) (λ u. []))
-      (call-outcome 0 (λ u. length (u .state .list)) (λ u. []) (lentTwo rows weights) cs bk (lateStop stop) (λ C. stop) (stoppedRun cs bk stop) (stopped-decided cs bk stop))
+      (RunAnswer stop rows weights a rows′ weights′)
 
-  -- `lampreysong_listing`. Answered, it tells the number of bytes of the text, and the text is the listing counted over the choices: 32,768 bytes always suffice.
-  pub listing-promise : (rows weights text : List ℕ) {a : Answer} {rows′ weights′ text′ : List ℕ} → ListingGives cs bk rows weights text a rows′ weights′ text′
-      → Outcome cs bk (short textBytes (lentThree rows weights text)) (λ C. 0) (λ C. C .head .lastMinute)
+  -- what `lampreysong_listing` answers: the number of bytes of the text, and the text is the listing counted over the choices; 32,768 bytes always suffice
+  abbrev pub ListingAnswer : List ℕ → List ℕ → List ℕ → Answer → List ℕ → List ℕ → List ℕ → Case → Type 0
+  ListingAnswer rows weights text a rows′ weights′ text′ C =
+      (a ≡ answered (length (countedListing C))) × TextMeant (countedListing C) text text′
+      × Meant C (C .head .lastMinute) (length (joint C (C .head .lastMinute) .list)) rows weights rows′ weights′
+
+  -- refused, as the run is, with the text
+  abbrev pub ListingPromise : List ℕ → List ℕ → List ℕ → Answer → List ℕ → List ℕ → List ℕ → Type 0
+  ListingPromise rows weights text a rows′ weights′ text′ =
+      Outcome cs bk (short textBytes (lentThree rows weights text)) (λ C. 0) (λ C. C .head .lastMinute)
       ((a ≡ refusedWith (refusalOf 14)) × (rows′ ≡ rows) × (weights′ ≡ weights) × (text′ ≡ text))
       (λ f. (a ≡ refusedWith f) × (1 ≤ f .number) × Cleared 16384 rows rows′ × Cleared 40320 weights weights′ × Cleared 32768 text text′)
-      (λ C. (a ≡ answered (length (countedListing C))) × TextMeant (countedListing C) text text′
-      × Meant C (C .head .lastMinute) (length (joint C (C .head .lastMinute) .list)) rows weights rows′ weights′)
-  unfolding listingCall textOf
-  listing-promise rows weights text {text′ = text′} g =
-      outcome-told
-      (λ z. let s = gives-same answerOf (lentThree rows weights text) (g .two) z in (s .0, s .1, s .2, g .text-is ∙ ap (λ (l : Lent ℕ). l .memory .text) z))
-      (λ f n z.
-      let s = gives-cleared answerOf (lentThree rows weights text) (g .two) 32768 f n z in
-      (s .0, s .1, s .2, s .3, subst (Cleared 32768 text) (sym (g .text-is ∙ ap (λ (l : Lent ℕ). l .memory .text) z)) (filled-cleared 32768 text)))
-      (λ C e b r z.
-      let m = gives-meant answerOf (lentThree rows weights text) (g .two) cs bk p q C e (C .head .lastMinute) (omega arith) r 32768
-      (length (listing C (joint C (C .head .lastMinute) .arrived))) textOf z in
-      let l = listing-counted cs bk C e in (
-        m .0 ∙ ap (λ (t : List ℕ). answered (length t)) l,
-        subst (λ (t : List ℕ). TextMeant t text text′) l
-            (text-meant (listing C (joint C (C .head .lastMinute) .arrived)) text (g .text-is ∙ ap (λ (l : Lent ℕ). l .memory .text) z)
-            (listing-suffices C (accepted-sound cs bk C e) (run-answered cs bk p q C e (C .head .lastMinute) (omega arith) r .unrefused))),
-        m .1,
-      ))
-      (call-outcome 32768 (λ u. length (textOf u)) textOf (lentThree rows weights text) cs bk (λ C. 0) (λ C. C .head .lastMinute) (wholeRun cs bk) (whole-decided cs bk))
+      (ListingAnswer rows weights text a rows′ weights′ text′)
 
-  -- `lampreysong_figures` of train k for a limit of L minutes. Refused, all its figures are 0. Answered, they are counted over the choices, of which none brings
-  -- the train in before plan.
-  pub figures-promise : (k L : ℕ) (rows weights : List ℕ) {a : TrainFigures} {rows′ weights′ : List ℕ} → FiguresGives cs bk k L rows weights a rows′ weights′
-      → Outcome cs bk (short 0 (lentTwo rows weights)) (missingTrain k) (λ C. C .head .lastMinute)
+  -- what `lampreysong_figures` of train k for a limit of L minutes answers: the figures counted over the choices, of which none brings the train in before plan
+  abbrev pub FiguresAnswer : ℕ → ℕ → List ℕ → List ℕ → TrainFigures → List ℕ → List ℕ → Case → Type 0
+  FiguresAnswer k L rows weights a rows′ weights′ C =
+      (a ≡ figuresOf (answer (countedFigures C k L))) × ((x : List ℕ) (t : ℕ) → arrival C x k ≡ some t → plan C k ≤ t)
+      × Meant C (C .head .lastMinute) (length (joint C (C .head .lastMinute) .list)) rows weights rows′ weights′
+
+  -- refused, as the run is, and all figures are 0
+  abbrev pub FiguresPromise : ℕ → ℕ → List ℕ → List ℕ → TrainFigures → List ℕ → List ℕ → Type 0
+  FiguresPromise k L rows weights a rows′ weights′ =
+      Outcome cs bk (short 0 (lentTwo rows weights)) (missingTrain k) (λ C. C .head .lastMinute)
       ((a ≡ figuresOf (refused (refusalOf 14))) × (rows′ ≡ rows) × (weights′ ≡ weights))
       (λ f. (a ≡ figuresOf (refused f)) × (1 ≤ f .number) × Cleared 16384 rows rows′ × Cleared 40320 weights weights′)
-      (λ C. (a ≡ figuresOf (answer (countedFigures C k L))) × ((x : List ℕ) (t : ℕ) → arrival C x k ≡ some t → plan C k ≤ t)
-      × Meant C (C .head .lastMinute) (length (joint C (C .head .lastMinute) .list)) rows weights rows′ weights′)
-  unfolding figuresCall
-  figures-promise k L rows weights g =
-      outcome-told
-      (gives-same figuresOf (lentTwo rows weights) g)
-      (gives-cleared figuresOf (lentTwo rows weights) g 0)
-      (λ C e b r z.
-      let m = gives-meant figuresOf (lentTwo rows weights) g cs bk p q C e (C .head .lastMinute) (omega arith) r 0 (figures C (joint C (C .head .lastMinute) .arrived) k L) (λ u. []) z in
-      (m .0 ∙ ap (λ f. figuresOf (answer f)) (figures-counted cs bk C e k L), λ x t. arrival-plan cs bk C e x k t, m .1))
-      (call-outcome 0 (λ u. figures (u .of) (u .state .arrived) k L) (λ u. []) (lentTwo rows weights) cs bk (missingTrain k) (λ C. C .head .lastMinute) (trainRun cs bk k)
-      (train-decided cs bk k))
+      (FiguresAnswer k L rows weights a rows′ weights′)
 
-  -- ---- an answer whose refusal is 0: the call was answered, and all that is promised of an answered one holds
+  module _ (p : Bytes cs) (q : Bytes bk) where
+    pub run-promise : (stop : ℕ) (rows weights : List ℕ) {a : Answer} {rows′ weights′ : List ℕ} → RunGives cs bk stop rows weights a rows′ weights′
+        → RunPromise stop rows weights a rows′ weights′
+    unfolding runCall
+    run-promise stop rows weights g =
+        outcome-told
+        (gives-same answerOf (lentTwo rows weights) g)
+        (gives-cleared answerOf (lentTwo rows weights) g 0)
+        (λ C e b r. gives-meant answerOf (lentTwo rows weights) g cs bk p q C e stop (stop-in stop C b) r 0 (length (joint C stop .list)) (λ u. []))
+        (call-outcome 0 (λ u. length (u .state .list)) (λ u. []) (lentTwo rows weights) cs bk (lateStop stop) (λ C. stop) (stoppedRun cs bk stop) (stopped-decided cs bk stop))
 
-  pub run-answers : (stop : ℕ) (rows weights : List ℕ) {a : Answer} {rows′ weights′ : List ℕ} → RunGives cs bk stop rows weights a rows′ weights′ → a .refusal ≡ 0
-      → Answers cs bk (lateStop stop) (λ C. stop)
-      (λ C. (a ≡ answered (length (joint C stop .list))) × Meant C stop (length (joint C stop .list)) rows weights rows′ weights′)
-  run-answers stop rows weights {a} g z =
-      outcome-answers (λ s. omega (arith, ap (λ (b : Answer). b .refusal) (s .0))) (λ f s. omega (arith, ap (λ (b : Answer). b .refusal) (s .0), s .1))
-      (run-promise stop rows weights g)
+    pub listing-promise : (rows weights text : List ℕ) {a : Answer} {rows′ weights′ text′ : List ℕ} → ListingGives cs bk rows weights text a rows′ weights′ text′
+        → ListingPromise rows weights text a rows′ weights′ text′
+    unfolding listingCall textOf
+    listing-promise rows weights text {text′ = text′} g =
+        outcome-told
+        (λ z. let s = gives-same answerOf (lentThree rows weights text) (g .two) z in (s .0, s .1, s .2, g .text-is ∙ ap (λ (l : Lent ℕ). l .memory .text) z))
+        (λ f n z.
+        let s = gives-cleared answerOf (lentThree rows weights text) (g .two) 32768 f n z in
+        (s .0, s .1, s .2, s .3, subst (Cleared 32768 text) (sym (g .text-is ∙ ap (λ (l : Lent ℕ). l .memory .text) z)) (filled-cleared 32768 text)))
+        (λ C e b r z.
+        let m = gives-meant answerOf (lentThree rows weights text) (g .two) cs bk p q C e (C .head .lastMinute) (omega arith) r 32768
+        (length (listing C (joint C (C .head .lastMinute) .arrived))) textOf z in
+        let l = listing-counted cs bk C e in (
+          m .0 ∙ ap (λ (t : List ℕ). answered (length t)) l,
+          subst (λ (t : List ℕ). TextMeant t text text′) l
+              (text-meant (listing C (joint C (C .head .lastMinute) .arrived)) text (g .text-is ∙ ap (λ (l : Lent ℕ). l .memory .text) z)
+              (listing-suffices C (accepted-sound cs bk C e) (run-answered cs bk p q C e (C .head .lastMinute) (omega arith) r .unrefused))),
+          m .1,
+        ))
+        (call-outcome 32768 (λ u. length (textOf u)) textOf (lentThree rows weights text) cs bk (λ C. 0) (λ C. C .head .lastMinute) (wholeRun cs bk) (whole-decided cs bk))
 
-  pub listing-answers : (rows weights text : List ℕ) {a : Answer} {rows′ weights′ text′ : List ℕ} → ListingGives cs bk rows weights text a rows′ weights′ text′ → a .refusal ≡ 0
-      → Answers cs bk (λ C. 0) (λ C. C .head .lastMinute)
-      (λ C. (a ≡ answered (length (countedListing C))) × TextMeant (countedListing C) text text′
-      × Meant C (C .head .lastMinute) (length (joint C (C .head .lastMinute) .list)) rows weights rows′ weights′)
-  listing-answers rows weights text {a} g z =
-      outcome-answers (λ s. omega (arith, ap (λ (b : Answer). b .refusal) (s .0))) (λ f s. omega (arith, ap (λ (b : Answer). b .refusal) (s .0), s .1))
-      (listing-promise rows weights text g)
+    pub figures-promise : (k L : ℕ) (rows weights : List ℕ) {a : TrainFigures} {rows′ weights′ : List ℕ} → FiguresGives cs bk k L rows weights a rows′ weights′
+        → FiguresPromise k L rows weights a rows′ weights′
+    unfolding figuresCall
+    figures-promise k L rows weights g =
+        outcome-told
+        (gives-same figuresOf (lentTwo rows weights) g)
+        (gives-cleared figuresOf (lentTwo rows weights) g 0)
+        (λ C e b r z.
+        let m = gives-meant figuresOf (lentTwo rows weights) g cs bk p q C e (C .head .lastMinute) (omega arith) r 0 (figures C (joint C (C .head .lastMinute) .arrived) k L) (λ u. []) z in
+        (m .0 ∙ ap (λ f. figuresOf (answer f)) (figures-counted cs bk C e k L), λ x t. arrival-plan cs bk C e x k t, m .1))
+        (call-outcome 0 (λ u. figures (u .of) (u .state .arrived) k L) (λ u. []) (lentTwo rows weights) cs bk (missingTrain k) (λ C. C .head .lastMinute) (trainRun cs bk k)
+        (train-decided cs bk k))
 
-  pub figures-answers : (k L : ℕ) (rows weights : List ℕ) {a : TrainFigures} {rows′ weights′ : List ℕ} → FiguresGives cs bk k L rows weights a rows′ weights′ → a .refusal ≡ 0
-      → Answers cs bk (missingTrain k) (λ C. C .head .lastMinute)
-      (λ C. (a ≡ figuresOf (answer (countedFigures C k L))) × ((x : List ℕ) (t : ℕ) → arrival C x k ≡ some t → plan C k ≤ t)
-      × Meant C (C .head .lastMinute) (length (joint C (C .head .lastMinute) .list)) rows weights rows′ weights′)
-  figures-answers k L rows weights {a} g z =
-      outcome-answers (λ s. omega (arith, ap (λ (b : TrainFigures). b .refusal) (s .0))) (λ f s. omega (arith, ap (λ (b : TrainFigures). b .refusal) (s .0), s .1))
-      (figures-promise k L rows weights g)
+    -- an answer whose refusal is 0 is that of an answered call
+    pub run-answers : (stop : ℕ) (rows weights : List ℕ) {a : Answer} {rows′ weights′ : List ℕ} → RunGives cs bk stop rows weights a rows′ weights′ → a .refusal ≡ 0
+        → Answers cs bk (lateStop stop) (λ C. stop) (RunAnswer stop rows weights a rows′ weights′)
+    run-answers stop rows weights g z =
+        outcome-answers (λ s. omega (arith, ap (λ (b : Answer). b .refusal) (s .0))) (λ f s. omega (arith, ap (λ (b : Answer). b .refusal) (s .0), s .1))
+        (run-promise stop rows weights g)
+
+    pub listing-answers : (rows weights text : List ℕ) {a : Answer} {rows′ weights′ text′ : List ℕ} → ListingGives cs bk rows weights text a rows′ weights′ text′
+        → a .refusal ≡ 0 → Answers cs bk (λ C. 0) (λ C. C .head .lastMinute) (ListingAnswer rows weights text a rows′ weights′ text′)
+    listing-answers rows weights text g z =
+        outcome-answers (λ s. omega (arith, ap (λ (b : Answer). b .refusal) (s .0))) (λ f s. omega (arith, ap (λ (b : Answer). b .refusal) (s .0), s .1))
+        (listing-promise rows weights text g)
+
+    pub figures-answers : (k L : ℕ) (rows weights : List ℕ) {a : TrainFigures} {rows′ weights′ : List ℕ} → FiguresGives cs bk k L rows weights a rows′ weights′
+        → a .refusal ≡ 0 → Answers cs bk (missingTrain k) (λ C. C .head .lastMinute) (FiguresAnswer k L rows weights a rows′ weights′)
+    figures-answers k L rows weights g z =
+        outcome-answers (λ s. omega (arith, ap (λ (b : TrainFigures). b .refusal) (s .0))) (λ f s. omega (arith, ap (λ (b : TrainFigures). b .refusal) (s .0), s .1))
+        (figures-promise k L rows weights g)
 
 -- ---- refusal 12, exactly by the stated cutting rule
 
