@@ -19,7 +19,6 @@ use Rattle.theory_codes.specs.Tables.{tables}
 use Rattle.out_images.specs.Rows.{Weighed}
 use Rattle.out_listing.specs.Text.{Listed, Prints}
 use Rattle.out_listing.specs.Suffices.{listing-suffices}
-use Rattle.theory_demands.specs.Demands.{seen}
 use Rattle.out_figures.specs.Sums as figures
 use Rattle.out_figures.specs.Weighed.{holds-weighed, holds-planned}
 use Rattle.out_figures.specs.declared.Figures.{Figures}
@@ -28,6 +27,7 @@ use Rattle.desk.specs.declared.Answer.{Answer}
 use Rattle.desk.specs.Answers.{answered}
 use Rattle.desk.specs.Steps.{Printable, Printed, Measurable, Measured}
 use Rattle.theory_codes.specs.Lookups.{table-plan}
+use Rattle.theory_weights.specs.Arrivals.{joint-seen}
 
 -- ---- the listing
 
@@ -112,7 +112,7 @@ module _ {cs bk : List ℕ} {k : ℕ} {u : Run} (o : Answered cs bk (u .of .head
   measurable =
       let at-last : Holds (u .of) (joint (u .of) (u .of .head .lastMinute) .arrived) ws k (getD tb (24 + k) 0) (getD tb 1 0) (100 ^ getD tb 0 0) =
       subst (λ (s : State Entry). Holds (u .of) (s .arrived) ws k (getD tb (24 + k) 0) (getD tb 1 0) (100 ^ getD tb 0 0)) (o .0 .state) words-hold in
-      let seen-all = seen cs bk (u .of) (o .0 .accepted) (u .of .head .lastMinute) in record {
+      let seen-all = joint-seen (u .of) sound-case (u .of .head .lastMinute) in record {
         trains = omega (arith, trains-looked (o .0) tb looked, sound-case .few-trains);
         plan = holds-planned (u .of) sound-case seen-all ws k (getD tb (24 + k) 0) (getD tb 1 0) (100 ^ getD tb 0 0) at-last (o .1);
         weighed = holds-weighed (u .of) sound-case seen-all ws k (getD tb (24 + k) 0) (getD tb 1 0) (100 ^ getD tb 0 0) at-last (o .1);

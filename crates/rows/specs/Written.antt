@@ -12,7 +12,7 @@ use lib.Seq.{slice, take-suc, take-take, take-set-le, take-suc-set, length-slice
 use Rattle.rules.specs.Lists.{one, each}
 use Rattle.theory_lists.specs.Each.{each-append, map-append}
 use Rattle.theory_lists.specs.Every.{Every, every-left, every-right}
-use Rattle.theory_lists.specs.Writes.{Put, put-full, put-length, put-join}
+use Rattle.theory_lists.specs.Writes.{take-more, Put, put-full, put-length, put-join}
 use Rattle.rows.specs.Rows.{Row, row, rowsOf, words, rowsIn, rowAt, meetsOf, metOf, heldRows, enteredRows}
 
 -- ---- rows and words
@@ -158,9 +158,6 @@ pub put-filled : {l : List ℕ} {d : ℕ} {r : ℕ} {l′ : List ℕ} (a m z : �
     → Put l d (slice a z from) r l′
 put-filled {l} {d} {r} {l′} a m z from h k long f e =
     subst (λ (x : List ℕ). Put l d x r l′) (sym (slice-split a m z from h k long)) (put-join f (put-full l′ r (slice m z from) r (omega (arith, e, put-length f)) (e ∙ sym (put-length f))))
-
-pub take-more : (i : ℕ) (l : List ℕ) → i < length l → take (i + 1) l ≡ take i l ++ (getD l i 0 ∷ [])
-take-more i l h = let e : i + 1 ≡ suc i = omega arith in ap (λ (z : ℕ). take z l) e ∙ take-suc l i 0 h
 
 -- ---- held and entered rows
 

@@ -6,7 +6,7 @@ use Prim.Native.Nat.{ℕ, zero, suc, _+_, _-_, min, _≤_, _<_}
 use native.Mathlib.Decide.{decLe}
 use native.Mathlib.Omega.{arith}
 use lib.ListN.{length, take, drop, getD, set, replicate, length-append}
-use lib.Seq.{sets, length-sets, sets-eq, set-out, length-take-le, take-append-seam}
+use lib.Seq.{sets, length-sets, sets-eq, set-out, length-take-le, take-suc, take-append-seam}
 
 -- the numbers L are written into l from the place w on: it is then l′, and r is the next place
 pub record Put (l : List ℕ) (w : ℕ) (L : List ℕ) (r : ℕ) (l′ : List ℕ) : Type 0 where
@@ -23,6 +23,10 @@ take-append (suc n) [] b = let e : suc n ≡ suc n - 0 = omega arith in ap (λ (
 take-append (suc n) (x ∷ a) b =
     let e : n - length a ≡ suc n - suc (length a) = omega arith in
     ap (λ l. x ∷ l) (take-append n a b ∙ ap (λ (k : ℕ). take n a ++ take k b) e)
+
+-- one number more
+pub take-more : (i : ℕ) (l : List ℕ) → i < length l → take (i + 1) l ≡ take i l ++ (getD l i 0 ∷ [])
+take-more i l h = let e : i + 1 ≡ suc i = omega arith in ap (λ (z : ℕ). take z l) e ∙ take-suc l i 0 h
 
 pub sets-out : (vs l : List ℕ) (i : ℕ) → length l ≤ i → sets l i vs ≡ l
 sets-out [] l i h = refl

@@ -10,7 +10,7 @@ use lib.ListN.{length, take, getD}
 use borrow.Author.Tests.{eq-eqb, ne-eqb}
 use Rattle.rules.specs.Lists.{sum}
 use Rattle.theory_lists.specs.Sums.{sum-append}
-use Rattle.rows.specs.Written.{take-more}
+use Rattle.theory_lists.specs.Writes.{take-more}
 use Rattle.weigh.specs.Weigh.{setWeight, coverWeight, weightOf, broughtOf, Small}
 
 -- ---- a set

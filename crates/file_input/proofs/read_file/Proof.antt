@@ -1,15 +1,12 @@
 -- `file_input::read_file` meets its contract: the bytes so far stay within the buffer, since a step fits the room that is left. Assumes nothing.
 use borrow.Author.Needs.{needs}
 use native.Mathlib.Omega.{arith}
-use mathlib.Core.Path.{_≡_, sym, ap, subst}
-use mathlib.Core.List.{List}
-use Prim.Native.Nat.{ℕ, _+_, _^_, _≤_, _<_}
+use mathlib.Core.Path.{_≡_, sym, subst}
+use Prim.Native.Nat.{_^_, _≤_, _<_}
 use lib.ListN.{length}
-use Rattle.file_input.specs.Reads.{Fitting, Holds}
+use Rattle.file_input.specs.Reads.{Holds}
 use Rattle.file_input.specs.Laws.{step-brought, reading-holds}
-use Rattle.file_input.specs.declared.Step.{Step}
 use Rattle.file_input.specs.declared.Reading.{Reading}
-use Rattle.file_input.specs.declared.Reading.the-variants.{Whole}
 use Rattle.file_input.specs.declared.Step.the-variants.{Ended}
 use Rattle.file_input.proofs.read_file.Statement.{statement}
 use Rattle.file_input.proofs.read_file.Tie as tie

@@ -1,8 +1,7 @@
 -- `file_input::step_of` meets its contract: by the sign of the read's answer, and by the count that `io::count` makes of one that is not negative.
 -- Assumes nothing.
 use mathlib.Core.Path.{_≡_, sym, ap, _∙_}
-use mathlib.Core.Bool.{Bool, true, false, cond}
-use Prim.Native.Nat.{ℕ}
+use mathlib.Core.Bool.{Bool, cond}
 use lib.IntN.{ℤ, pos}
 use lib.ListN.{length}
 use lib.Signed.{ltZ}
@@ -12,7 +11,6 @@ use borrow.Author.Needs.{needs}
 use borrow.Author.Tests.{eq-eqb, ne-eqb}
 use Rattle.io.specs.Counts.{clamped}
 use Rattle.file_input.specs.Laws.{step-negative, step-counted}
-use Rattle.file_input.specs.declared.Step.{Step}
 use Rattle.file_input.specs.declared.Step.the-variants.{More, Ended, Broken}
 use Rattle.file_input.proofs.step_of.Statement.{statement}
 use Rattle.file_input.proofs.step_of.Tie as tie
