@@ -18,7 +18,8 @@ type Refused = (u16, u16, u32);
 pub fn every_refusal(tally: &mut Tally) {
     let of_files = [of_fields(), of_levels(), of_trains()].concat();
     for (what, files, refused) in of_files {
-        tally.expect(all_refuse(&files, refused), || format!("failed: refusal {what}"));
+        let holds = all_refuse(&files, refused);
+        tally.expect(holds, || format!("failed: refusal {what}"));
     }
     for (what, holds) in of_calls() {
         tally.expect(holds, || format!("failed: refusal {what}"));
