@@ -23,13 +23,13 @@ use Rattle.rules.specs.Figures.{Figures, figures}
 abbrev pub caseFor : List ℕ → List ℕ → (Case → List Rule) → Result Case
 caseFor cs bk arguments = then (files cs bk) (λ C. judged (arguments C) nowhere C)
 
--- a wrong count, or an index past the table of its train
+-- 15: a wrong count, or an index past the table of its train
 unfoldable pub choiceBroken : Case → List ℕ → Bool
 choiceBroken C x =
     not (eqb (length x) (length (C .trains)))
     || any (λ k. leb (length (getD (C .tables) k [])) (getD x k 0)) (below (length (C .trains)))
 
--- trains are numbered from 0
+-- 16: trains are numbered from 0
 unfoldable pub noSuchTrain : Case → ℕ → Bool
 noSuchTrain C k = leb (length (C .trains)) k
 
@@ -61,7 +61,7 @@ trainRun cs bk k = then (caseFor cs bk (λ C. noTrain when noSuchTrain C k ∷ [
 
 -- ---- images
 
--- a number in n bytes, the highest first
+-- a number in n bytes, the highest first; it is below 256^n (`run-weighable`, `list-shown`, crate `promises`)
 abbrev pub bytes : ℕ → ℕ → List ℕ
 bytes zero v = []
 bytes (suc n) v = v / 256 ^ n % 256 ∷ bytes n v
@@ -84,17 +84,19 @@ rowImage r =
 unfoldable pub weightsImage : Run → List ℕ
 weightsImage u = each (λ k. each (λ t. bytes 8 (weightAt (u .of) (u .state .arrived) k t)) (below 720)) (below mostTrains)
 
+-- the bytes of the listing
 unfoldable pub textOf : Run → List ℕ
 textOf u = listing (u .of) (u .state .arrived)
 
 -- ---- lent memory
 
+-- the memory that a call is lent; a call that is lent no text has none
 pub record Memory : Type 0 where
   pub rows : List ℕ
   pub weights : List ℕ
   pub text : List ℕ
 
--- the bytes required: 1,024 rows, 5,040 weights, and of the text what the call asks for
+-- the bytes required: 1,024 rows of 16 bytes, 5,040 weights of 8, and 32,768 of text from a call that asks for text
 abbrev pub rowsBytes : ℕ
 rowsBytes = 1024 * 16
 
@@ -104,18 +106,21 @@ weightsBytes = mostTrains * 720 * 8
 abbrev pub textBytes : ℕ
 textBytes = 32768
 
+-- memory is too short, where so much text is asked for
 unfoldable pub short : ℕ → Memory → Bool
 short asked m = ltb (length (m .rows)) rowsBytes || ltb (length (m .weights)) weightsBytes || ltb (length (m .text)) asked
 
--- the required part holds the image, and 0 where it is unused; memory past it never changes
+-- the required part holds the image, and 0 where it is unused; memory past it never changes. No image is longer than required: a list has at most 1,024 entries, and the
+-- text fits by `listing-suffices`, crate `out_listing`
 unfoldable pub filled : ℕ → List ℕ → List ℕ → List ℕ
 filled required image memory = image ++ replicate (required - length image) 0 ++ drop required memory
 
+-- what a call comes to, and what lent memory holds then
 pub record Lent (A : Type 0) : Type 0 where
   pub result : Result A
   pub memory : Memory
 
--- a refusal sets the required part to zero; an answer fills it
+-- A refusal sets the required part to zero; an answer fills it. `asked` is the text required, `value` what an answered call tells, `text` what it writes as text.
 abbrev pub lent : {A : Type 0} → ℕ → (Run → A) → (Run → List ℕ) → Memory → Result Run → Lent A
 lent asked value text m (refused r) = record {
   result = refused r;

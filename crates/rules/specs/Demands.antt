@@ -21,19 +21,21 @@ use Rattle.rules.specs.Joint.{covers, whole, Entry, joint}
 abbrev pub Choice : Case → List ℕ → Type 0
 Choice C x = covers (whole C) x ≡ true
 
--- the choice's single run brings train k to its last station in minute t
+-- it is minute t
 abbrev pub isIn : ℕ → Option ℕ → Bool
 isIn t none = false
 isIn t (some u) = eqb u t
 
+-- the choice's single run brings train k to its last station in minute t
 unfoldable pub arrivesIn : Case → ℕ → ℕ → List ℕ → Bool
 arrivesIn C k t x = isIn t (arrival C x k)
 
--- the choice's single run brings train k to its last station in no minute up to T
+-- it is no minute
 abbrev pub isNever : Option ℕ → Bool
 isNever none = true
 isNever (some u) = false
 
+-- the choice's single run brings train k to its last station in no minute up to T
 unfoldable pub arrivesNever : Case → ℕ → List ℕ → Bool
 arrivesNever C k x = isNever (arrival C x k)
 
@@ -71,7 +73,7 @@ pub record Simulates (C : Case) (x : List ℕ) (m : ℕ) : Type 0 where
   pub stations : (i : ℕ) → trainsOn C (station i) (view x (joint C m .list)) ≤ capacity C (station i)
   pub tracks : (j : ℕ) → trainsOn C (track j) (view x (joint C m .list)) ≤ capacity C (track j)
 
--- ---- the lists that a run goes through
+-- ---- the lists that a run goes through, as `turns`, `visit`, `minute`, `minutes` and `runFrom` do
 
 -- the list has more items than the room
 abbrev pub passes : {A : Type 0} → ℕ → List A → Bool
@@ -92,9 +94,11 @@ module _ {A : Type 0} (C : Case) (R : Rules A) where
   turnLists zero t e v = []
   turnLists (suc n) t e v = turnList t e (v .rows) (next C R (v .rows)) ++ turnLists n t e (serveNext C R t e v (next C R (v .rows)))
 
+  -- the list after each asker for e in minute t
   unfoldable pub visitLists : ℕ → Place → State A → List (List A)
   visitLists t e s = turnLists (length (s .list)) t e (visiting (map (λ a. row a (asks C t e (R .mark a))) (s .list)) (s .arrived) (s .met))
 
+  -- the list after each asker for one element after another
   abbrev pub visitsLists : ℕ → List Place → State A → List (List A)
   visitsLists t [] s = []
   visitsLists t (e ∷ es) s = visitLists t e s ++ visitsLists t es (visit C R t e s)

@@ -23,6 +23,7 @@ weightIn C arrived k test = sum (weightAt C arrived k) (keep test (window C))
 unfoldable pub onTime : Case → List (Arrival Entry) → ℕ → ℕ → ℕ
 onTime C arrived k L = weightIn C arrived k (λ t. leb t (plan C k + L))
 
+-- late means more than L after plan
 unfoldable pub late : Case → List (Arrival Entry) → ℕ → ℕ → ℕ
 late C arrived k L = weightIn C arrived k (λ t. ltb (plan C k + L) t)
 
@@ -47,6 +48,7 @@ pub record Shares : Type 0 where
   pub late : Float
   pub notArrived : Float
 
+-- each share is one such division
 unfoldable pub shares : Case → List (Arrival Entry) → ℕ → ℕ → Shares
 shares C arrived k L = record {
   onTime = double (onTime C arrived k L) (total C);
@@ -54,7 +56,8 @@ shares C arrived k L = record {
   notArrived = double (notArrived C arrived k) (total C);
 }
 
--- the mean lateness of the arrived as two whole numbers, sum and weight
+-- The mean lateness of the arrived as two whole numbers, sum and weight. No arrival is before plan (`arrival-plan`, crate `theory_calls`), so the lateness is the
+-- minute less plan.
 unfoldable pub latenessSum : Case → List (Arrival Entry) → ℕ → ℕ
 latenessSum C arrived k = sum (λ t. (t - plan C k) * weightAt C arrived k t) (window C)
 

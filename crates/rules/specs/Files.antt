@@ -42,7 +42,7 @@ pub record Table : Type 0 where
   pub type : ℕ
   pub pairs : List Pair
 
--- what a file holds so far, each kind in the order of its fields; `tag` is the last field's, 0 before the first
+-- what a file holds so far, each kind in the order of its fields; `tag` is the last field's, 0 before the first. A station is its capacity
 pub record Contents : Type 0 where
   pub tag : ℕ
   pub head : Head
@@ -53,9 +53,11 @@ pub record Contents : Type 0 where
 
 -- ---- bodies: numbers are big-endian
 
+-- the byte at offset i
 abbrev pub byte : List ℕ → ℕ → ℕ
 byte b i = getD b i 0
 
+-- the number in the two bytes from offset i on
 abbrev pub word : List ℕ → ℕ → ℕ
 word b i = byte b i * 256 + byte b (i + 1)
 
@@ -71,7 +73,7 @@ trackOf b = record { from = byte b 0; to = byte b 1; capacity = byte b 2 }
 unfoldable pub stopOf : List ℕ → Stop
 stopOf b = record { station = byte b 0; arrival = word b 1; departure = word b 3 }
 
--- priority (1), type (1), then the stops
+-- priority (1), type (1), then the stops, 5 bytes each; `at` is the offset of the field
 unfoldable pub trainOf : ℕ → List ℕ → Train
 trainOf at b = record {
   place = at;
@@ -84,7 +86,7 @@ trainOf at b = record {
 unfoldable pub pairOf : List ℕ → Pair
 pairOf b = record { delay = byte b 0; weight = byte b 1 }
 
--- type (1), then the pairs
+-- type (1), then the pairs, 2 bytes each
 unfoldable pub tableOf : List ℕ → Table
 tableOf b = record { type = byte b 0; pairs = map (λ k. pairOf (drop (1 + 2 * k) b)) (below ((length b - 1) / 2)) }
 
@@ -94,17 +96,20 @@ pub data File : Type 0 where
   case : File
   book : File
 
+-- the number that a refusal names the file by
 abbrev pub fileNumber : File → ℕ
 fileNumber case = 0
 fileNumber book = 1
 
+-- an offset of the file, as a refusal names it
 abbrev pub spot : File → ℕ → Spot
 spot f at = record { file = fileNumber f; place = at }
 
+-- the tags that there are
 unfoldable pub known : ℕ → Bool
 known tag = has (1 ∷ 2 ∷ 3 ∷ 4 ∷ 5 ∷ []) tag
 
--- by tag: head, station, track, train, delay table
+-- what belongs to the tag, of what is said for a head, a station, a track, a train and a delay table
 abbrev pub byTag {ℓ} : {A : Type ℓ} → ℕ → A → A → A → A → A → A
 byTag tag h s r t d = cond (eqb tag 1) h (cond (eqb tag 2) s (cond (eqb tag 3) r (cond (eqb tag 4) t d)))
 
@@ -113,31 +118,36 @@ unfoldable pub inPlace : File → Contents → ℕ → Bool
 inPlace case c tag = cond (eqb (c .tag) 0) (eqb tag 1) (not (eqb tag 1) && leb (c .tag) tag)
 inPlace book c tag = eqb tag 5
 
--- a train has 2 to 8 stops, a table 1 to 8 pairs
+-- the lengths that are possible for the tag: a train has 2 to 8 stops, a table 1 to 8 pairs
 unfoldable pub lengths : ℕ → List ℕ
 lengths tag = byTag tag (5 ∷ []) (1 ∷ []) (3 ∷ []) (map (λ n. 2 + 5 * n) (span 7 2)) (map (λ n. 1 + 2 * n) (span 8 1))
 
 abbrev pub mostTrains : ℕ
 mostTrains = 7
 
--- how many fields of a tag there may be, and how many there are
+-- how many fields of a tag there may be
 unfoldable pub most : ℕ → ℕ
 most tag = byTag tag 1 24 40 mostTrains 8
 
+-- how many there are so far; heads are not counted, since a second one is refused 3 by its place
 unfoldable pub howMany : Contents → ℕ → ℕ
 howMany c tag = byTag tag 0 (length (c .stations)) (length (c .tracks)) (length (c .trains)) (length (c .tables))
 
 -- ---- what is sound in a body
 
+-- n is out of the range from low to high
 abbrev pub notIn : ℕ → ℕ → ℕ → Bool
 notIn low high n = ltb n low || ltb high n
 
+-- T 1 to 719; safety time 0 to 30; room 1 to 1,024
 unfoldable pub headRules : Head → List Rule
 headRules h = outOfRange when (notIn 1 719 (h .lastMinute) || notIn 0 30 (h .safety) || notIn 1 1024 (h .room)) ∷ []
 
+-- capacity 1 to 255
 unfoldable pub stationRules : ℕ → List Rule
 stationRules capacity = outOfRange when notIn 1 255 capacity ∷ []
 
+-- there is no station of that number
 unfoldable pub unknown : Contents → ℕ → Bool
 unknown c station = leb (length (c .stations)) station
 
@@ -145,24 +155,25 @@ unknown c station = leb (length (c .stations)) station
 unfoldable pub leads : ℕ → ℕ → Track → Bool
 leads from to r = eqb (r .from) from && eqb (r .to) to
 
+-- capacity 1 to 255; known ends, not equal, not those of an earlier track
 unfoldable pub trackRules : Contents → Track → List Rule
 trackRules c r =
     outOfRange when notIn 1 255 (r .capacity)
     ∷ wrongEnds when (unknown c (r .from) || unknown c (r .to) || eqb (r .from) (r .to) || any (leads (r .from) (r .to)) (c .tracks))
     ∷ []
 
--- a step from a stop to the next one breaks the rule
+-- whether some step, from a stop to the next one, breaks the rule
 abbrev pub anyStep : (Stop → Stop → Bool) → List Stop → Bool
 anyStep broken [] = false
 anyStep broken (a ∷ []) = false
 anyStep broken (a ∷ (b ∷ l)) = broken a b || anyStep broken (b ∷ l)
 
--- one stands twice in the list
+-- whether a number stands twice in the list
 abbrev pub repeats : List ℕ → Bool
 repeats [] = false
 repeats (a ∷ l) = has l a || repeats l
 
--- a path repeats no station, and each step of it has a track
+-- whether a path breaks its rules: its stations are known, it repeats none, and each step of it has a track
 unfoldable pub pathBroken : Contents → List Stop → Bool
 pathBroken c stops =
     any (λ s. unknown c (s .station)) stops
@@ -175,7 +186,7 @@ lastOf [] = record { station = 0; arrival = 0; departure = 0 }
 lastOf (a ∷ []) = a
 lastOf (a ∷ (b ∷ l)) = lastOf (b ∷ l)
 
--- arrival ≤ departure at a stop, departure < next arrival, last departure ≤ T
+-- whether times break their rules: arrival ≤ departure at a stop, departure < next arrival, last departure ≤ T
 unfoldable pub timesBroken : Contents → List Stop → Bool
 timesBroken c stops =
     any (λ s. ltb (s .departure) (s .arrival)) stops
@@ -200,13 +211,14 @@ tableRules c d =
     || any (λ e. leb (d .type) (e .type)) (c .tables))
     ∷ []
 
+-- the rules of the body b of a field with the tag, at offset `at`, where the file holds c before it
 unfoldable pub bodyRules : Contents → ℕ → ℕ → List ℕ → List Rule
 bodyRules c at tag b =
     byTag tag (headRules (headOf b)) (stationRules (byte b 0)) (trackRules c (trackOf b)) (trainRules c (trainOf at b)) (tableRules c (tableOf b))
 
 -- ---- reading
 
--- a field at the front of the bytes: one byte tag, two bytes length, body
+-- of a field at the front of the bytes (one byte tag, two bytes length, body): its length, and its body
 abbrev pub size : List ℕ → ℕ
 size l = word l 1
 
@@ -224,7 +236,7 @@ fieldRules f c at l =
     ∷ wrongCount when leb (most (byte l 0)) (howMany c (byte l 0))
     ∷ bodyRules c at (byte l 0) (body l)
 
--- what the file holds with one field more
+-- what the file holds with one field more, with its tag and its body b
 unfoldable pub more : Contents → ℕ → ℕ → List ℕ → Contents
 more c at tag b = record {
   tag = tag;
@@ -240,18 +252,20 @@ unfoldable pub endRules : File → Contents → List Rule
 endRules case c = wrongCount when (eqb (c .tag) 0 || eqb (length (c .stations)) 0 || eqb (length (c .trains)) 0) ∷ []
 endRules book c = []
 
--- the field at the front, and `go` reads those after it; or the end of the file
+-- The field at offset `at`, where the bytes l stand, is judged and added to what the file holds, and `go` reads on after it. Where no byte is left, the end
+-- of the file is judged.
 unfoldable pub readField : (ℕ → List ℕ → Contents → Result Contents) → File → ℕ → List ℕ → Contents → Result Contents
 readField go f at [] c = judged (endRules f c) (spot f at) c
 readField go f at (b ∷ l) c =
     then (judged (fieldRules f c at (b ∷ l)) (spot f at) (more c at b (body (b ∷ l))))
     (go (at + (3 + size (b ∷ l))) (drop (3 + size (b ∷ l)) (b ∷ l)))
 
--- fields are read one after another, in at most n turns; the first that isn't sound ends the reading
+-- fields are read one after another; the first that isn't sound ends the reading. There are n turns, of which `read` gives enough
 unfoldable pub readFields : ℕ → File → ℕ → List ℕ → Contents → Result Contents
 readFields zero f at l c = answer c
 readFields (suc n) f at l c = readField (readFields n f) f at l c
 
+-- what a file holds before its first field
 abbrev pub empty : Contents
 empty = record {
   tag = 0;
@@ -262,14 +276,14 @@ empty = record {
   tables = [];
 }
 
--- a field has at least three bytes, so the end is met before as many turns as there are bytes, and one, are over; more turns change
--- nothing (`turns-suffice`, crate `theory_sound`)
+-- The reading of a whole file. Each turn takes a field, which has at least three bytes, or the end, so one turn more than there are bytes suffices:
+-- more turns change nothing (`turns-suffice`, crate `theory_sound`).
 unfoldable pub read : File → List ℕ → Result Contents
 read f l = readFields (suc (length l)) f 0 l empty
 
 -- ---- case and book together
 
--- a sound case: each train has the pairs of its table
+-- what an accepted case and its book come to: `tables` has for each train, by number, the pairs of its table
 pub record Case : Type 0 where
   pub head : Head
   pub stations : List ℕ
@@ -281,10 +295,12 @@ pub record Case : Type 0 where
 unfoldable pub tablesOf : Contents → Contents → ℕ → List Table
 tablesOf c k type = keep (λ d. eqb (d .type) type) (c .tables ++ k .tables)
 
+-- the pairs of the first table
 abbrev pub firstPairs : List Table → List Pair
 firstPairs [] = []
 firstPairs (d ∷ l) = d .pairs
 
+-- the case of what the two files hold
 unfoldable pub caseOf : Contents → Contents → Case
 caseOf c k = record {
   head = c .head;
@@ -303,6 +319,6 @@ abbrev pub noneLacking : List Train → Case → Result Case
 noneLacking [] C = answer C
 noneLacking (t ∷ ts) C = refuse (number noTable) (spot case (t .place))
 
--- the case, then the book likewise, then 11
+-- the case is read, then the book likewise, then 11 is looked for
 unfoldable pub files : List ℕ → List ℕ → Result Case
 files cs bk = then (read case cs) (λ c. then (read book bk) (λ k. noneLacking (lacking c k) (caseOf c k)))

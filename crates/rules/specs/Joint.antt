@@ -14,7 +14,8 @@ use Rattle.rules.specs.Single.{pairAt, waits}
 
 -- ---- covers
 
--- a set of a train's delays: their indices, rising; a cover: for each train a set
+-- A set of a train's delays is the list of their indices, rising. A cover has a set for each train, by number; it covers the choices that take each train's delay
+-- from its set.
 abbrev pub Cover : Type 0
 Cover = List (List ℕ)
 
@@ -22,7 +23,7 @@ Cover = List (List ℕ)
 unfoldable pub common : List ℕ → List ℕ → List ℕ
 common s u = keep (has u) s
 
--- what a set loses of its delays
+-- what is left of a set that loses these delays
 unfoldable pub without : List ℕ → List ℕ → List ℕ
 without s u = keep (λ d. not (has u d)) s
 
@@ -36,7 +37,7 @@ inside [] q = []
 inside (s ∷ p) [] = []
 inside (s ∷ p) (u ∷ q) = common s u ∷ inside p q
 
--- no common choice: some train's set is empty
+-- a cover that covers no choice: some train's set is empty
 unfoldable pub apart : Cover → Bool
 apart p = any isEmpty p
 
@@ -52,24 +53,27 @@ unfoldable pub choicesIn : Cover → List (List ℕ)
 choicesIn [] = [] ∷ []
 choicesIn (s ∷ p) = each (λ d. map (λ x. d ∷ x) (choicesIn p)) s
 
+-- the cover covers the choice
 unfoldable pub covers : Cover → List ℕ → Bool
 covers [] [] = true
 covers [] (d ∷ x) = false
 covers (s ∷ p) [] = false
 covers (s ∷ p) (d ∷ x) = has s d && covers p x
 
--- each train's set is whole
+-- the cover in which each train's set is whole
 unfoldable pub whole : Case → Cover
 whole C = map (λ pairs. below (length pairs)) (C .tables)
 
+-- all choices
 unfoldable pub choices : Case → List (List ℕ)
 choices C = choicesIn (whole C)
 
--- the weight of a choice, from train k on: the product of the weights
+-- the product of the weights of a choice's pairs, from train k on
 abbrev pub weightFrom : Case → ℕ → List ℕ → ℕ
 weightFrom C k [] = 1
 weightFrom C k (d ∷ x) = pairAt C k d .weight * weightFrom C (suc k) x
 
+-- the weight of a choice is the product of the weights
 unfoldable pub weightOf : Case → List ℕ → ℕ
 weightOf C x = weightFrom C 0 x
 
@@ -77,7 +81,7 @@ weightOf C x = weightFrom C 0 x
 unfoldable pub weight : Case → Cover → ℕ
 weight C p = sum (weightOf C) (choicesIn p)
 
--- all choices of n trains together weigh 100^n
+-- all choices of n trains together weigh 100^n (`choices-weigh`, crate `theory_demands`)
 unfoldable pub total : Case → ℕ
 total C = 100 ^ length (C .trains)
 
@@ -105,9 +109,9 @@ pub record Piece : Type 0 where
 abbrev pub piece : Cover → Bool → Piece
 piece p h = record { cover = p; held = h }
 
--- The piece p with count n, carried through the covers still to meet. A piece whose count has reached the capacity is held. Otherwise, if its count plus the
--- number of entries still to meet is below the capacity, it enters uncut. Otherwise it meets the next. No common choice: it goes on. Else the inside goes on
--- first with count plus 1; then the outside pieces; each is carried through the entries still to meet.
+-- What becomes of the piece p with count n, carried through the covers still to meet; `cap` is the capacity. A piece whose count has reached the capacity is held.
+-- Otherwise, if its count plus the number of entries still to meet is below the capacity, it enters uncut. Otherwise it meets the next, q. No common choice: it goes
+-- on. Else the inside, c, goes on first with count plus 1; then the outside pieces with the same count; each is carried through the entries still to meet.
 unfoldable pub carry : ℕ → List Cover → ℕ → Cover → List Piece
 carry cap [] n p = piece p (leb cap n) ∷ []
 carry cap (q ∷ qs) n p =
@@ -117,16 +121,16 @@ carry cap (q ∷ qs) n p =
     (cond (apart c) (carry cap qs n p)
     (carry cap qs (suc n) c ++ each (carry cap qs n) (outsides p c))))
 
--- the entries of other trains that stand on or block the element, in list order
+-- the covers of the entries of other trains than k that stand on or block the element, in list order
 unfoldable pub meets : Place → ℕ → List Entry → List Cover
 meets e k rs = each (λ r. one (not (eqb (r .mark .train) k) && same (r .mark .place) e) (r .cover)) rs
 
--- a piece starts as the whole cover with count 0; the way out has no limit
+-- what becomes of an asking entry r: a piece starts as its whole cover with count 0; the way out has no limit
 unfoldable pub pieces : Case → Place → List Entry → Entry → List Piece
 pieces C e rs r =
     cond (same e gone) (piece (r .cover) false ∷ []) (carry (capacity C e) (meets e (r .mark .train) rs) 0 (r .cover))
 
--- the arrival of a piece with the cover p
+-- the same arrival, of a piece with the cover p
 abbrev pub covered : Cover → Arrival Mark → Arrival Entry
 covered p v = arrives (entry (v .who) p) (v .minute)
 
@@ -145,6 +149,7 @@ unfoldable pub checkList : Case → List Entry → ℕ
 checkList C rs =
     verdict (noRoom when ltb (C .head .room) (length rs) ∷ tooHeavy when any (λ r. ltb (10 ^ 14) (weight C (r .cover))) rs ∷ [])
 
+-- the items of the joint run are entries
 unfoldable pub jointRules : Case → Rules Entry
 jointRules C = record { mark = λ r. r .mark; serve = serveEntry C; check = checkList C }
 

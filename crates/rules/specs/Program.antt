@@ -13,6 +13,7 @@ abbrev pub textFor : Result Run → List ℕ
 textFor (refused r) = refusedLine r
 textFor (answer u) = textOf u
 
+-- what is printed for a case and a book
 unfoldable pub printed : List ℕ → List ℕ → List ℕ
 printed cs bk = textFor (wholeRun cs bk)
 

@@ -1,4 +1,4 @@
--- 01, "Refusal numbers": each refusal named once, with the paper's number, and the first broken rule of several.
+-- 01, "Refusal numbers": each refusal named once, with 01's number, and which refusal comes of several broken rules: that of the first.
 -- Assumes nothing: these are definitions.
 use mathlib.Core.Bool.{Bool, true, false}
 use mathlib.Core.List.{List, [], _∷_}
@@ -33,9 +33,11 @@ pub record Rule : Type 0 where
   pub fault : Fault
   pub broken : Bool
 
+-- the rule that is broken if b
 abbrev pub _when_ : Fault → Bool → Rule
 f when b = record { fault = f; broken = b }
 
+-- n if it is so, and otherwise m
 abbrev pub firstOf : Bool → ℕ → ℕ → ℕ
 firstOf true n m = n
 firstOf false n m = m
@@ -51,7 +53,7 @@ pub record Refusal : Type 0 where
   pub file : ℕ
   pub place : ℕ
 
--- what a call comes to
+-- what a reading or a call comes to
 pub data Result (A : Type 0) : Type 0 where
   refused : Refusal → Result A
   answer : A → Result A
@@ -65,6 +67,7 @@ pub record Spot : Type 0 where
 abbrev pub nowhere : Spot
 nowhere = record { file = 0; place = 0 }
 
+-- the refusal with number n at the spot
 abbrev pub refuse : {A : Type 0} → ℕ → Spot → Result A
 refuse n s = refused (record { number = n; file = s .file; place = s .place })
 

@@ -10,7 +10,8 @@ use Rattle.rules.specs.Files.{Stop, Pair, Case}
 use Rattle.rules.specs.Turns.{Place, same, Mark, stands, trainAt, capacity, entered, Arrival, arriving, Served, served, State, Rules, runFrom}
 use Rattle.rules.specs.Turns.Place.{outside, gone}
 
--- a choice takes one pair from each train's table: it is the list of their indices, counted from 0
+-- A choice takes one pair from each train's table. It is the list of the pairs' indices, counted from 0, by train number; this is the pair at index i of
+-- train k's table.
 abbrev pub pairAt : Case → ℕ → ℕ → Pair
 pairAt C k i = getD (getD (C .tables) k []) i (record { delay = 0; weight = 0 })
 
@@ -22,6 +23,7 @@ firstArrival (a ∷ l) = a .arrival
 unfoldable pub waits : Case → ℕ → ℕ → Mark
 waits C k i = stands k outside (firstArrival (trainAt C k .stops) + pairAt C k i .delay)
 
+-- at first each train waits outside
 unfoldable pub firstMarks : Case → List ℕ → List Mark
 firstMarks C x = map (λ k. waits C k (getD x k 0)) (below (length (C .trains)))
 
@@ -33,18 +35,20 @@ trainsOn C e ms = count (λ k. any (λ m. eqb (m .train) k && same (m .place) e)
 unfoldable pub enters : Case → Place → List Mark → Bool
 enters C e ms = same e gone || ltb (trainsOn C e ms) (capacity C e)
 
+-- a train that asks enters, or stays in its row as it is
 unfoldable pub serveTrain : Case → ℕ → Place → List Mark → Mark → Served Mark
 serveTrain C t e ms m =
     cond (enters C e ms) (served [] (entered C t e m) (arriving C t e m)) (served (m ∷ []) [] [])
 
--- the single run refuses no list
+-- the items of the single run are marks, and it refuses no list
 unfoldable pub singleRules : Case → Rules Mark
 singleRules C = record { mark = λ m. m; serve = serveTrain C; check = λ ms. 0 }
 
--- the trains and blocks after minute t, and the arrivals so far
+-- the single run of the choice x after minute t: the list of the trains and blocks, and the arrivals so far
 unfoldable pub single : Case → List ℕ → ℕ → State Mark
 single C x t = runFrom C (singleRules C) (firstMarks C x) t
 
+-- the minute of train k among arrivals
 abbrev pub minuteOf : ℕ → List (Arrival Mark) → Option ℕ
 minuteOf k [] = none
 minuteOf k (v ∷ vs) = cond (eqb (v .who .train) k) (some (v .minute)) (minuteOf k vs)

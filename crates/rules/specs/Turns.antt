@@ -1,5 +1,6 @@
 -- 01, "The single run", steps 1 to 4: what a minute is made of, for the single run and for the joint run, whose "minutes, elements and order are as above".
--- A run is over a list of items that each show a mark: one train standing or blocking. Assumes nothing: these are definitions.
+-- A run goes on with a list of items. Each item shows a mark: a train that stands somewhere, or blocks an element. In the single run the items are marks, in the
+-- joint run entries. Assumes nothing: these are definitions.
 use mathlib.Core.Bool.{Bool, true, false, not, _&&_, _||_, cond}
 use mathlib.Core.List.{List, [], _∷_, _++_, map}
 use Prim.Native.Nat.{ℕ, zero, suc, _+_, _-_}
@@ -17,6 +18,7 @@ pub data Place : Type 0 where
   track : ℕ → Place
   gone : Place
 
+-- a place as two numbers, its kind and its number among those of its kind
 abbrev pub kindOf : Place → ℕ
 kindOf outside = 0
 kindOf (station i) = 1
@@ -29,10 +31,11 @@ numberOf (station i) = i
 numberOf (track j) = j
 numberOf gone = 0
 
+-- it is the same place
 unfoldable pub same : Place → Place → Bool
 same p q = eqb (kindOf p) (kindOf q) && eqb (numberOf p) (numberOf q)
 
--- a train, a place, standing or blocking, and a minute (due, or end of block)
+-- a train, a place, whether it blocks (otherwise it stands), and a minute: the end of the block, or when the train is due
 pub record Mark : Type 0 where
   pub train : ℕ
   pub place : Place
@@ -47,6 +50,7 @@ block k p t = record { train = k; place = p; blocks = true; minute = t }
 
 -- ---- the way of a train
 
+-- what a number gives that is no train's
 abbrev pub absent : Train
 absent = record { place = 0; priority = 0; type = 0; stops = [] }
 
@@ -61,12 +65,13 @@ pub record Leg : Type 0 where
 abbrev pub leg : Place → ℕ → Leg
 leg p n = record { place = p; planned = n }
 
--- the number of the track from one station to the other
+-- the number of the first track from one station to the other
 abbrev pub trackFrom : ℕ → ℕ → List Track → ℕ
 trackFrom a b [] = 0
 trackFrom a b (r ∷ l) = cond (leads a b r) 0 (suc (trackFrom a b l))
 
--- station, track, station, .., last station, the way out
+-- the elements of a path: station, track, station, .., last station, the way out. The planned stop is departure less arrival, the planned drive the next
+-- arrival less departure
 abbrev pub legs : List Track → List Stop → List Leg
 legs ts [] = []
 legs ts (a ∷ []) = leg (station (a .station)) (a .departure - a .arrival) ∷ leg gone 0 ∷ []
@@ -75,26 +80,30 @@ legs ts (a ∷ (b ∷ l)) =
     ∷ leg (track (trackFrom (a .station) (b .station) ts)) (b .arrival - a .departure)
     ∷ legs ts (b ∷ l)
 
+-- the way of train k
 unfoldable pub way : Case → ℕ → List Leg
 way C k = legs (C .tracks) (trainAt C k .stops)
 
+-- what comes after the place
 abbrev pub after : Place → List Leg → List Leg
 after p [] = []
 after p (l ∷ ls) = cond (same (l .place) p) ls (after p ls)
 
--- the elements before a train at a place, the next one first
+-- what train k at the place p has still to enter, the next one first; of a train that is gone, nothing
 unfoldable pub ahead : Case → ℕ → Place → List Leg
 ahead C k p = cond (same p outside) (way C k) (after p (way C k))
 
+-- the next one is e
 abbrev pub headIs : Place → List Leg → Bool
 headIs e [] = false
 headIs e (l ∷ ls) = same (l .place) e
 
+-- the planned minutes on e
 abbrev pub plannedOn : Place → List Leg → ℕ
 plannedOn e [] = 0
 plannedOn e (l ∷ ls) = cond (same (l .place) e) (l .planned) (plannedOn e ls)
 
--- a train arrives where it enters its last station
+-- where train k arrives: its last station
 unfoldable pub lastStation : Case → ℕ → Place
 lastStation C k = station (lastOf (trainAt C k .stops) .station)
 
@@ -111,7 +120,7 @@ capacity C gone = 0
 
 -- ---- what happens in a minute
 
--- 1. blocks whose end is before t go
+-- 1. blocks whose end is before t go: the block m is one of them
 unfoldable pub ended : ℕ → Mark → Bool
 ended t m = m .blocks && ltb (m .minute) t
 
@@ -119,14 +128,15 @@ ended t m = m .blocks && ltb (m .minute) t
 unfoldable pub asks : Case → ℕ → Place → Mark → Bool
 asks C t e m = not (m .blocks) && headIs e (ahead C (m .train) (m .place)) && leb (m .minute) t
 
--- in order of priority, then train number
+-- a asks before b: in order of priority, then train number
 unfoldable pub sooner : Case → Mark → Mark → Bool
 sooner C a b =
     let p = trainAt C (a .train) .priority in
     let q = trainAt C (b .train) .priority in
     ltb p q || (eqb p q && ltb (a .train) (b .train))
 
--- 4. entering a station it is due again after its planned stop there, entering a track after its planned drive; gone, its due minute is the minute it left
+-- 4. entering a station it is due again after its planned stop there, entering a track after its planned drive; leaving by the way out, on which no minutes are
+-- planned, its due minute is the minute it left
 unfoldable pub dueAgain : Case → ℕ → ℕ → Place → ℕ
 dueAgain C t k e = t + plannedOn e (way C k)
 
@@ -152,7 +162,7 @@ arriving C t e m = one (same e (lastStation C (m .train))) (arrives (stands (m .
 
 -- ---- one asker after another
 
--- what comes of an asker: what stands in its row, what is added at the end of the list, and what has arrived
+-- what comes of an asker: what stands in its row then, what is added at the end of the list, and what arrives
 pub record Served (A : Type 0) : Type 0 where
   pub rows : List A
   pub added : List A
@@ -178,9 +188,11 @@ pub record Row (A : Type 0) : Type 0 where
 abbrev pub row : {A : Type 0} → A → Bool → Row A
 row a b = record { item = a; asking = b }
 
+-- the items of the rows
 abbrev pub items : {A : Type 0} → List (Row A) → List A
 items rs = map (λ r. r .item) rs
 
+-- rows that do not ask
 abbrev pub quiet : {A : Type 0} → List A → List (Row A)
 quiet l = map (λ a. row a false) l
 
@@ -202,17 +214,18 @@ pub data Turn (A : Type 0) : Type 0 where
   nobody : Turn A
   somebody : List (Row A) → A → List (Row A) → Turn A
 
--- a row put before those among which somebody was found
+-- the same, with the row r before all others
 abbrev pub behind : {A : Type 0} → Row A → Turn A → Turn A
 behind r nobody = nobody
 behind r (somebody b a c) = somebody (r ∷ b) a c
 
--- the first row that passes the test
+-- the first row that passes the test, with the rows before and after it
 abbrev pub find : {A : Type 0} → (Row A → Bool) → List (Row A) → Turn A
 find test [] = nobody
 find test (r ∷ rs) = cond (test r) (somebody [] (r .item) rs) (behind r (find test rs))
 
--- a run of items: the mark that an item shows, what comes of an item that asks for an element in a minute, and what a list is refused for
+-- what a kind of run says of its items: the mark that an item shows; what comes of an item that asks for an element in a minute, with the list as it then is;
+-- and the number for which a list is refused (0: none)
 pub record Rules (A : Type 0) : Type 0 where
   pub mark : A → Mark
   pub serve : ℕ → Place → List A → A → Served A
@@ -227,7 +240,8 @@ module _ {A : Type 0} (C : Case) (R : Rules A) where
   unfoldable pub next : List (Row A) → Turn A
   next rs = find (goesFirst rs) rs
 
-  -- an asker served: what replaces it stands in its row, what it adds at the end, and neither asks again in this minute
+  -- An asker is served: what comes of it stands in its row and at the end of the list, and none of that asks again in this visit. The list is then checked, and the
+  -- first refusal that was met stays.
   abbrev pub serveNext : ℕ → Place → Visit A → Turn A → Visit A
   serveNext t e v nobody = v
   serveNext t e v (somebody b a c) =
@@ -235,18 +249,18 @@ module _ {A : Type 0} (C : Case) (R : Rules A) where
       let rs = b ++ quiet (s .rows) ++ c ++ quiet (s .added) in
       visiting rs (v .arrived ++ s .arrived) (firstOf (ltb 0 (v .met)) (v .met) (R .check (items rs)))
 
-  -- n turns, one asker after another
+  -- n turns, in each of which the next asker is served
   unfoldable pub turns : ℕ → ℕ → Place → Visit A → Visit A
   turns zero t e v = v
   turns (suc n) t e v = turns n t e (serveNext t e v (next (v .rows)))
 
-  -- 2. and 3. the askers for e are fixed before the first is served. Each turn serves one of them, so there are no more turns than rows
-  -- (`turns-suffice`, crate `theory_simulation`)
+  -- 2. and 3. An element e is visited: who asks for it is fixed before the first is served. Each turn serves one asker, so as many turns as there are rows suffice:
+  -- more change nothing (`turns-suffice`, crate `theory_simulation`).
   unfoldable pub visit : ℕ → Place → State A → State A
   visit t e s =
       left (turns (length (s .list)) t e (visiting (map (λ a. row a (asks C t e (R .mark a))) (s .list)) (s .arrived) (s .met)))
 
-  -- minute t
+  -- minute t: the blocks that ended go, and then the elements are visited in their order
   unfoldable pub minute : ℕ → State A → State A
   minute t s =
       fold (visit t) (elements C) (state (keep (λ a. not (ended t (R .mark a))) (s .list)) (s .arrived) (s .met))
@@ -256,6 +270,6 @@ module _ {A : Type 0} (C : Case) (R : Rules A) where
   minutes zero s = s
   minutes (suc n) s = minute n (minutes n s)
 
-  -- the run from a first list, after minute m
+  -- the run from a first list, after minute m; the first list is checked, too
   unfoldable pub runFrom : List A → ℕ → State A
   runFrom l m = minutes (suc m) (state l [] (R .check l))

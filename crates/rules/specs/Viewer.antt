@@ -39,11 +39,11 @@ nextPlace i (field tag size end) = end
 nextPlace i ended = i
 nextPlace i overruns = i
 
--- its place once it has given n times, if it stood at i
+-- its place after it has given n times, if it stood at i
 unfoldable pub placeFrom : ℕ → List ℕ → ℕ → ℕ
 placeFrom zero l i = i
 placeFrom (suc n) l i = placeFrom n l (nextPlace i (viewed l i))
 
--- and if it started at the file's start
+-- its place after it has given n times, if it started at the file's start
 abbrev pub placeOf : List ℕ → ℕ → ℕ
 placeOf l n = placeFrom n l 0
