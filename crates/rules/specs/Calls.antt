@@ -47,7 +47,7 @@ pub record Run : Type 0 where
 abbrev pub runTo : ℕ → Case → Result Run
 runTo m C = answerUnless (joint C m .met) nowhere (record { of = C; state = joint C m })
 
--- the run that stops after minute m
+-- the run that stops after minute m; 17: m is above T
 unfoldable pub stoppedRun : List ℕ → List ℕ → ℕ → Result Run
 stoppedRun cs bk m = then (caseFor cs bk (λ C. stopTooLate when ltb (C .head .lastMinute) m ∷ [])) (runTo m)
 
@@ -61,7 +61,7 @@ trainRun cs bk k = then (caseFor cs bk (λ C. noTrain when noSuchTrain C k ∷ [
 
 -- ---- images
 
--- a number in n bytes, the highest first; it is below 256^n (`run-weighable`, `list-shown`, crate `promises`)
+-- a number in n bytes, the highest first; each that is shown so is below 256^n (`run-weighable`, `list-shown`, crate `promises`)
 abbrev pub bytes : ℕ → ℕ → List ℕ
 bytes zero v = []
 bytes (suc n) v = v / 256 ^ n % 256 ∷ bytes n v
@@ -106,12 +106,12 @@ weightsBytes = mostTrains * 720 * 8
 abbrev pub textBytes : ℕ
 textBytes = 32768
 
--- memory is too short, where so much text is asked for
+-- one of the three is shorter than required, where `asked` bytes of text are
 unfoldable pub short : ℕ → Memory → Bool
 short asked m = ltb (length (m .rows)) rowsBytes || ltb (length (m .weights)) weightsBytes || ltb (length (m .text)) asked
 
--- the required part holds the image, and 0 where it is unused; memory past it never changes. No image is longer than required: a list has at most 1,024 entries, and the
--- text fits by `listing-suffices`, crate `out_listing`
+-- the required part holds the image, and 0 where it is unused; memory past it never changes. No image is longer than required: an answered run's list has at most
+-- 1,024 entries, and the text fits by `listing-suffices`, crate `out_listing`
 unfoldable pub filled : ℕ → List ℕ → List ℕ → List ℕ
 filled required image memory = image ++ replicate (required - length image) 0 ++ drop required memory
 

@@ -73,7 +73,7 @@ pub record Simulates (C : Case) (x : List ℕ) (m : ℕ) : Type 0 where
   pub stations : (i : ℕ) → trainsOn C (station i) (view x (joint C m .list)) ≤ capacity C (station i)
   pub tracks : (j : ℕ) → trainsOn C (track j) (view x (joint C m .list)) ≤ capacity C (track j)
 
--- ---- the lists that a run goes through, as `turns`, `visit`, `minute`, `minutes` and `runFrom` do
+-- ---- the lists that a run goes through, step by step beside `turns`, `visit`, `minute`, `minutes` and `runFrom`
 
 -- the list has more items than the room
 abbrev pub passes : {A : Type 0} → ℕ → List A → Bool

@@ -27,6 +27,7 @@ common s u = keep (has u) s
 unfoldable pub without : List ℕ → List ℕ → List ℕ
 without s u = keep (λ d. not (has u d)) s
 
+-- the set has no delay
 abbrev pub isEmpty : List ℕ → Bool
 isEmpty [] = true
 isEmpty (d ∷ s) = false
@@ -87,6 +88,7 @@ total C = 100 ^ length (C .trains)
 
 -- ---- entries
 
+-- a mark with a cover
 pub record Entry : Type 0 where
   pub mark : Mark
   pub cover : Cover
@@ -134,7 +136,8 @@ pieces C e rs r =
 abbrev pub covered : Cover → Arrival Mark → Arrival Entry
 covered p v = arrives (entry (v .who) p) (v .minute)
 
--- held pieces replace the asking entry in its row, minute unchanged; then each entering piece adds at the end its standing entry and its block
+-- held pieces replace the asking entry in its row, minute unchanged; then each entering piece adds at the end its standing entry and, unless it came from outside,
+-- its block
 unfoldable pub serveEntry : Case → ℕ → Place → List Entry → Entry → Served Entry
 serveEntry C t e rs r =
     let ps = pieces C e rs r in

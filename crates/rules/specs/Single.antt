@@ -15,6 +15,7 @@ use Rattle.rules.specs.Turns.Place.{outside, gone}
 abbrev pub pairAt : Case → ℕ → ℕ → Pair
 pairAt C k i = getD (getD (C .tables) k []) i (record { delay = 0; weight = 0 })
 
+-- the planned arrival at the first stop
 abbrev pub firstArrival : List Stop → ℕ
 firstArrival [] = 0
 firstArrival (a ∷ l) = a .arrival
@@ -48,7 +49,7 @@ singleRules C = record { mark = λ m. m; serve = serveTrain C; check = λ ms. 0 
 unfoldable pub single : Case → List ℕ → ℕ → State Mark
 single C x t = runFrom C (singleRules C) (firstMarks C x) t
 
--- the minute of train k among arrivals
+-- the minute of train k's first arrival among these
 abbrev pub minuteOf : ℕ → List (Arrival Mark) → Option ℕ
 minuteOf k [] = none
 minuteOf k (v ∷ vs) = cond (eqb (v .who .train) k) (some (v .minute)) (minuteOf k vs)

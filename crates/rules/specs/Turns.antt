@@ -42,18 +42,21 @@ pub record Mark : Type 0 where
   pub blocks : Bool
   pub minute : ℕ
 
+-- train k stands at p and is due in minute t
 abbrev pub stands : ℕ → Place → ℕ → Mark
 stands k p t = record { train = k; place = p; blocks = false; minute = t }
 
+-- train k blocks p through minute t
 abbrev pub block : ℕ → Place → ℕ → Mark
 block k p t = record { train = k; place = p; blocks = true; minute = t }
 
 -- ---- the way of a train
 
--- what a number gives that is no train's
+-- for a number that no train has
 abbrev pub absent : Train
 absent = record { place = 0; priority = 0; type = 0; stops = [] }
 
+-- train k
 abbrev pub trainAt : Case → ℕ → Train
 trainAt C k = getD (C .trains) k absent
 
@@ -120,7 +123,7 @@ capacity C gone = 0
 
 -- ---- what happens in a minute
 
--- 1. blocks whose end is before t go: the block m is one of them
+-- 1. blocks whose end is before t go: m is one of them
 unfoldable pub ended : ℕ → Mark → Bool
 ended t m = m .blocks && ltb (m .minute) t
 
@@ -214,7 +217,7 @@ pub data Turn (A : Type 0) : Type 0 where
   nobody : Turn A
   somebody : List (Row A) → A → List (Row A) → Turn A
 
--- the same, with the row r before all others
+-- what was found behind the row r, with r among the rows before it
 abbrev pub behind : {A : Type 0} → Row A → Turn A → Turn A
 behind r nobody = nobody
 behind r (somebody b a c) = somebody (r ∷ b) a c
