@@ -28,10 +28,10 @@ use Rattle.entries.specs.Answer as joints
 use Rattle.out_images.specs.Rows.{rowOf, SmallEntry}
 use Rattle.rules.specs.Refusals.Result.{answer}
 use Rattle.rules.specs.Demands.{passes}
+use Rattle.rules.specs.Promised.{Bytes}
 use Rattle.theory_sound.specs.Accepted.{accepted-sound}
 use Rattle.theory_codes.specs.Tables.{tables}
 use Rattle.file_lookup.specs.declared.Sizes.{Sizes}
-use Rattle.file_plan.specs.Small.{Bytes}
 use Rattle.weigh.specs.Weigh.{Small}
 use Rattle.theory_codes.specs.Lookups.{table-room}
 use Rattle.desk.specs.Single.{byte-delays}

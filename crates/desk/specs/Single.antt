@@ -3,7 +3,7 @@
 use mathlib.Core.Path.{_≡_, refl, sym, ap, _∙_, subst}
 use mathlib.Core.Bool.{Bool, true, false}
 use mathlib.Core.List.{List, [], _∷_}
-use mathlib.Core.Option.{Option, none, some}
+use mathlib.Core.Option.{none}
 use Prim.Native.Nat.{ℕ, suc, _≤_, _<_}
 use native.Mathlib.Omega.{arith}
 use lib.ListN.{length, getD}
@@ -15,7 +15,7 @@ use Rattle.rules.specs.Files.{Case, files}
 use Rattle.rules.specs.Single.{arrival}
 use Rattle.rules.specs.Calls.{choiceBroken, noSuchTrain, singleRun}
 use Rattle.theory_lists.specs.Every.{Every}
-use Rattle.rules.specs.Answers as answers
+use Rattle.rules.specs.Promised.{Bytes}
 use Rattle.theory_sound.specs.Facts.{Sound}
 use Rattle.theory_sound.specs.Accepted.{accepted-sound}
 use Rattle.theory_codes.specs.Tables.{tables}
@@ -26,9 +26,9 @@ use Rattle.file_lookup.specs.declared.Files.the-variants as told
 use Rattle.file_lookup.specs.Answers.{sizesOf, filesOf}
 use Rattle.file_lookup.specs.Laws.{sound-unsound}
 use Rattle.file_arguments.specs.Arguments.{forSingle}
-use Rattle.file_plan.specs.Small.{Bytes, files-small}
+use Rattle.file_plan.specs.Small.{files-small}
 use Rattle.single.specs.Words.{Small}
-use Rattle.single.specs.Runs.{minuteNumber, Arrives}
+use Rattle.single.specs.Runs.{Arrives}
 use Rattle.single.specs.Low.{words-small, tables-last}
 use Rattle.desk.specs.declared.Answer.{Answer}
 use Rattle.desk.specs.Answers.{answered, singleAnswer}
@@ -123,10 +123,5 @@ module _ (cs bk x : List ℕ) (k : ℕ) where
       single-answered h w =
           w
           ∙ ap answered (h (ready .of) (accepted-sound cs bk (ready .of) (ready .accepted)) looked (ready .chosen .choice) (ready .chosen .known))
-          ∙ ap answered (minute (arrival (ready .of) x k))
           ∙ ap (λ (R : Result Case). singleAnswer (then R (λ D. answer (arrival D x k)))) (sym (ready .told-as))
           ∙ ap singleAnswer single-run
-        where
-          minute : (o : Option ℕ) → minuteNumber o ≡ answers.minuteNumber o
-          minute none = refl
-          minute (some t) = refl

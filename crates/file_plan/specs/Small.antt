@@ -11,15 +11,12 @@ use borrow.Author.Tests.{ltb-true, ltb-false}
 use Rattle.rules.specs.Refusals.Result.{answer}
 use Rattle.rules.specs.Files.{Case, byte, word, files}
 use Rattle.rules.specs.Single.{pairAt}
+use Rattle.rules.specs.Promised.{Bytes}
 use Rattle.file_fields.specs.Fields.{past, whole, bodyAt}
 use Rattle.file_lookup.specs.Lookup.{tablePlace, tableBytes}
 use Rattle.file_plan.specs.Model.{onward, tableIn, pairsIn, pairWord, trainPlace}
 use Rattle.file_plan.specs.Decoded.{Decoded, decoded}
 use Rattle.file_plan.specs.Parts.{pairs-none, delay-word}
-
--- every element is a byte
-abbrev pub Bytes : List ℕ → Type 0
-Bytes l = (i : ℕ) → getD l i 0 < 256
 
 -- ---- parts of a list of bytes
 

@@ -15,13 +15,13 @@ use Rattle.rules.specs.Turns.{Place, kindOf, numberOf}
 use Rattle.rules.specs.Turns.Place.{outside, station, track, gone}
 use Rattle.rules.specs.Joint.{Cover, isEmpty, Entry, weightAt}
 use Rattle.rules.specs.Calls.{bytes, setImage, coverImage, rowImage, Run, weightsImage}
+use Rattle.rules.specs.Decoded.{numberIn, delaysIn, coverIn, placeIn, entryIn, entriesIn, weightIn}
 use Rattle.theory_lists.specs.Every.{Every}
 use Rattle.theory_lists.specs.Below.{each-span-next, each-below-same}
 use Rattle.cut.specs.Packed.{Delays, Sets, Packable}
 use Rattle.cut.specs.Packed.Delays.{none, takes, skips}
 use Rattle.cut.specs.Sets.{image-delays, image-empty}
 use Rattle.out_images.specs.Below.{length-parts, each-blocks}
-use Rattle.promises.specs.Decoded.{numberIn, delaysIn, coverIn, placeIn, entryIn, entriesIn, weightIn}
 
 -- ---- numbers
 

@@ -1,8 +1,6 @@
-pub mod Decoded
 pub mod Images
 pub mod Digits
 pub mod Told
 pub mod Shown
-pub mod Meant
 pub mod Outcomes
 pub mod Promises

@@ -19,18 +19,16 @@ use Rattle.theory_sound.specs.Accepted.{accepted-sound}
 use Rattle.theory_sound.specs.Places.{files-told}
 use Rattle.theory_sound.specs.Runs.{Answered}
 use Rattle.rules.specs.Demands.{view}
+use Rattle.rules.specs.Decoded.{entriesIn, weightIn}
+use Rattle.rules.specs.Promised.{Outcome, Answers, Cleared, Unused, Meant, TextMeant, Outcome as outcome, refusalOf, full, lateStop, Bytes}
 use Rattle.theory_weights.specs.Room.{list-fits}
 use Rattle.theory_demands.specs.Demands.{demand-3, demand-2, demand-2-later, room-askers}
 use Rattle.theory_calls.specs.Memory.{cleared, written, call-short, call-refused, call-answered}
-use Rattle.theory_calls.specs.Decided.{refusalOf, full, lateStop, Decided}
+use Rattle.theory_calls.specs.Decided.{Decided}
 use Rattle.theory_calls.specs.Decided.{Decided as decided}
-use Rattle.file_plan.specs.Small.{Bytes}
 use Rattle.desk.specs.Answers.{Gives}
-use Rattle.promises.specs.Decoded.{entriesIn, weightIn}
 use Rattle.promises.specs.Images.{length-rows, entries-in, length-weights, weight-in}
 use Rattle.promises.specs.Shown.{list-shown, run-weighable}
-use Rattle.promises.specs.Meant.{Outcome, Answers, Cleared, Unused, Meant, TextMeant}
-use Rattle.promises.specs.Meant.{Outcome as outcome}
 
 -- ---- what a call comes to
 

@@ -18,17 +18,16 @@ use Rattle.rules.specs.Figures.{plan, Figures, figures}
 use Rattle.rules.specs.Calls.{Lent, textBytes, textOf, short, singleRun, stoppedRun, wholeRun, trainRun, runCall, listingCall, figuresCall}
 use Rattle.theory_sound.specs.Accepted.{accepted-sound}
 use Rattle.rules.specs.Demands.{Choice}
-use Rattle.theory_calls.specs.Decided.{refusalOf, lateStop, missingTrain, stopped-decided, whole-decided, train-decided, SingleDecided, single-decided}
+use Rattle.rules.specs.Promised.{Outcome, Answers, Cleared, Meant, TextMeant, countedListing, countedFigures, refusalOf, lateStop, missingTrain, RefusedWith, Full, Bytes}
+use Rattle.theory_calls.specs.Decided.{stopped-decided, whole-decided, train-decided, SingleDecided, single-decided}
 use Rattle.theory_calls.specs.Decided.{SingleDecided as singles}
-use Rattle.theory_calls.specs.Counted.{countedListing, countedFigures, listing-counted, figures-counted}
-use Rattle.theory_calls.specs.Promises.{RefusedWith, Full, run-full, listing-full, figures-full, handed-single, handed-run, handed-part, handed-figures}
+use Rattle.theory_calls.specs.Counted.{listing-counted, figures-counted}
+use Rattle.theory_calls.specs.Promises.{run-full, listing-full, figures-full, handed-single, handed-run, handed-part, handed-figures}
 use Rattle.theory_calls.specs.Plan.{arrival-plan, arrival-window}
-use Rattle.file_plan.specs.Small.{Bytes}
 use Rattle.out_listing.specs.Suffices.{listing-suffices}
 use Rattle.desk.specs.declared.Answer.{Answer}
 use Rattle.desk.specs.declared.TrainFigures.{TrainFigures}
 use Rattle.desk.specs.Answers.{refusedWith, answered, answerOf, singleAnswer, figuresOf, lentTwo, lentThree, Gives, GivesText, SingleGives, RunGives, ListingGives, FiguresGives}
-use Rattle.promises.specs.Meant.{Outcome, Answers, Cleared, Meant, TextMeant}
 use Rattle.promises.specs.Outcomes.{call-outcome, outcome-told, outcome-answers, filled-cleared, text-meant, run-answered, gives-same, gives-cleared, gives-meant, stop-in}
 
 -- ---- the single run

@@ -10,6 +10,7 @@ use Rattle.rules.specs.Files.{Case, mostTrains}
 use Rattle.rules.specs.Turns.{State}
 use Rattle.rules.specs.Joint.{Cover, whole, Entry, joint, weightAt}
 use Rattle.rules.specs.Calls.{Run, rowImage, weightsImage}
+use Rattle.rules.specs.Promised.{Bytes}
 use Rattle.theory_lists.specs.Every.{Every, every-more}
 use Rattle.theory_sound.specs.Facts.{Sound}
 use Rattle.theory_sound.specs.Accepted.{accepted-sound}
@@ -23,7 +24,6 @@ use Rattle.theory_passes.specs.Joint.{joint-passes}
 use Rattle.theory_passes.specs.Bounds.{Bounded, joint-bounded}
 use Rattle.entries.specs.Encoded.{Good, proper-packable}
 use Rattle.entries.specs.Agreeing.{good-every}
-use Rattle.file_plan.specs.Small.{Bytes}
 use Rattle.desk.specs.Single.{byte-delays}
 use Rattle.promises.specs.Images.{AllFilled, Shown, Weighable, rows-one, weights-one}
 

@@ -15,10 +15,11 @@ use Rattle.rules.specs.Figures.{Punctuality, Shares, Figures, figures}
 use Rattle.rules.specs.Figures.Punctuality.{never, always, share}
 use Rattle.rules.specs.Calls.{Run, Memory, Lent, textBytes, textOf, call, singleRun, stoppedRun, wholeRun, trainRun, runCall, listingCall, figuresCall}
 use Rattle.rules.specs.Answers.{Answer, numberAnswer, minuteNumber, minuteAnswer, punctualityNumber, punctualityValue, FiguresAnswer, figuresAnswer}
+use Rattle.rules.specs.Promised.{refusalOf, lateStop, missingTrain}
 use Rattle.theory_sound.specs.Accepted.{accepted-sound}
 use Rattle.theory_sound.specs.Places.{files-told}
 use Rattle.theory_sound.specs.Verdicts.{refused-answer, refused-refused}
-use Rattle.theory_calls.specs.Decided.{refusalOf, lateStop, missingTrain, Decided, stopped-decided, whole-decided, train-decided, SingleDecided, single-decided}
+use Rattle.theory_calls.specs.Decided.{Decided, stopped-decided, whole-decided, train-decided, SingleDecided, single-decided}
 use Rattle.theory_calls.specs.Decided.{Decided as runs, SingleDecided as singles}
 use Rattle.theory_calls.specs.Plan.{arrival-window}
 use Rattle.theory_calls.specs.Promises.{Comes, call-comes, Comes as comes}

@@ -11,4 +11,6 @@ pub mod Answers
 pub mod Calls
 pub mod Program
 pub mod Demands
+pub mod Decoded
+pub mod Promised
 pub mod Points

@@ -15,6 +15,7 @@ use Rattle.rules.specs.Files.{Case}
 use Rattle.rules.specs.Turns.{Place, Mark, arriving, State, state}
 use Rattle.rules.specs.Single.{firstMarks, minuteOf, arrival}
 use Rattle.rules.specs.Calls.{choiceBroken}
+use Rattle.rules.specs.Answers.{minuteNumber}
 use Rattle.theory_sound.specs.Facts.{Sound}
 use Rattle.theory_lists.specs.Below.{length-span, every-below}
 use Rattle.theory_lists.specs.Every.{Every}
@@ -34,11 +35,6 @@ use Rattle.single.specs.Shows.{Shows, shows-cleared}
 use Rattle.single.specs.Asking.{few}
 use Rattle.single.specs.Serving.{served-shows}
 use Rattle.single.specs.Waiting.{start-shows}
-
--- the minute of an answer, 65,535 for none
-abbrev pub minuteNumber : Option ℕ → ℕ
-minuteNumber none = 65535
-minuteNumber (some t) = t
 
 -- r is the answer to a choice x for train k, whenever T is the tables of a sound case and x a choice of it
 abbrev pub Arrives : List ℕ → List ℕ → ℕ → ℕ → Type 0

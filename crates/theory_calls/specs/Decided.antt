@@ -17,27 +17,13 @@ use Rattle.rules.specs.Single.{arrival}
 use Rattle.rules.specs.Joint.{firstList, jointRules, joint}
 use Rattle.rules.specs.Calls.{Run, runTo, choiceBroken, noSuchTrain, singleRun, stoppedRun, wholeRun, trainRun}
 use Rattle.rules.specs.Demands.{Choice, passes, runLists}
+use Rattle.rules.specs.Promised.{refusalOf, full, lateStop, missingTrain}
 use Rattle.theory_sound.specs.Accepted.{accepted-sound}
 use Rattle.theory_simulation.specs.Choices.{unbroken-choice}
 use Rattle.theory_demands.specs.Demands.{room-askers}
 use Rattle.theory_demands.specs.Choices.{broken-no-choice}
 
 -- ---- the definitions
-
--- a refusal of a call's arguments or of its run: the file is 0 and so is the place
-abbrev pub refusalOf : ℕ → Refusal
-refusalOf n = record { number = n; file = 0; place = 0 }
-
--- the first list, or the list after some asking entry was served up to minute m, has more entries than the room
-unfoldable pub full : Case → ℕ → Bool
-full C m = any (passes (C .head .room)) (runLists C (jointRules C) (firstList C) m)
-
--- the number for which the arguments are refused, 0 if they are sound: a stop minute above T; no such train
-abbrev pub lateStop : ℕ → Case → ℕ
-lateStop m C = cond (ltb (C .head .lastMinute) m) 17 0
-
-abbrev pub missingTrain : ℕ → Case → ℕ
-missingTrain k C = cond (leb (length (C .trains)) k) 16 0
 
 -- what a run to a case's minute `stop` comes to, where `arguments` is the number for which its arguments are refused
 pub data Decided (cs bk : List ℕ) (arguments stop : Case → ℕ) (r : Result Run) : Type 0 where

@@ -1,5 +1,5 @@
--- The three demands over the calls, as a reader opens them first. The exported functions answer what `singleRun`, `runCall`, `listingCall` and
--- `figuresCall` say, so these theorems are about them. Each proof cites the crates below. Assumes nothing.
+-- The three demands over the calls, as definitions. The exported functions answer what `singleRun`, `runCall`, `listingCall` and
+-- `figuresCall` say, so what they promise (crate `promises`) follows from these theorems. Each proof cites the crates below. Assumes nothing.
 use mathlib.Core.Path.{_≡_, refl, sym, ap, _∙_, subst}
 use mathlib.Core.Bool.{Bool, true, false, cond, false≢true}
 use mathlib.Core.Logic.{_↔_}
@@ -18,6 +18,7 @@ use Rattle.rules.specs.Listing.{notArrived, listing}
 use Rattle.rules.specs.Calls.{Run, stoppedRun, wholeRun, trainRun, Memory, textBytes, textOf, short, Lent, call, singleRun, runCall, listingCall, figuresCall}
 use Rattle.rules.specs.Figures.{figures}
 use Rattle.rules.specs.Demands.{Choice, Simulates, arrivesIn}
+use Rattle.rules.specs.Promised.{missing, countedFigures, countedListing, refusalOf, full, lateStop, missingTrain, RefusedWith, Full}
 use Rattle.theory_sound.specs.Accepted.{accepted-sound}
 use Rattle.theory_sound.specs.Window.{files-window}
 use Rattle.theory_sound.specs.Places.{files-told}
@@ -25,9 +26,9 @@ use Rattle.theory_sound.specs.Verdicts.{refused-answer, answer-answer, refused-
 use Rattle.theory_weights.specs.Room.{list-fits}
 use Rattle.theory_demands.specs.Demands.{demand-3, demand-2, demand-2-later, demand-2-not-arrived}
 use Rattle.theory_sound.specs.Runs.{Answered, stopped-answer, whole-answer, train-answer}
-use Rattle.theory_calls.specs.Decided.{refusalOf, full, lateStop, missingTrain, Decided, stopped-decided, whole-decided, train-decided}
+use Rattle.theory_calls.specs.Decided.{Decided, stopped-decided, whole-decided, train-decided}
 use Rattle.theory_calls.specs.Decided.Decided.{by-files, by-arguments, by-room, by-run}
-use Rattle.theory_calls.specs.Counted.{missing, countedFigures, countedListing, listing-counted, figures-counted}
+use Rattle.theory_calls.specs.Counted.{listing-counted, figures-counted}
 use Rattle.theory_calls.specs.Memory.{memory, cleared, written, call-short, call-refused, call-answered}
 
 -- ---- demand 1: all inputs, and every byte of lent memory
@@ -131,19 +132,6 @@ text-is cs bk u e =
     ap (λ (s : State Entry). listing (u .of) (s .arrived)) (a .state) ∙ listing-counted cs bk (u .of) (a .accepted)
 
 -- ---- the list counts as full only by the stated cutting rule
-
--- the call is refused, with this number
-abbrev pub RefusedWith : {A : Type 0} → ℕ → Result A → Type 0
-RefusedWith n (refused f) = f .number ≡ n
-RefusedWith n (answer a) = ⊥
-
--- memory suffices, the files and the arguments are sound, and the first list, or the list after some asking entry was served, has more entries than the room
-pub record Full (asked : ℕ) (m : Memory) (cs bk : List ℕ) (arguments stop : Case → ℕ) : Type 0 where
-  pub of : Case
-  pub suffices : short asked m ≡ false
-  pub accepted : files cs bk ≡ answer of
-  pub sound : arguments of ≡ 0
-  pub passed : full of (stop of) ≡ true
 
 module _ {A : Type 0} (asked : ℕ) (value : Run → A) (text : Run → List ℕ) (m : Memory) (cs bk : List ℕ) (arguments stop : Case → ℕ)
     (other : (C : Case) → arguments C ≡ 12 → ⊥) (r : Result Run) (d : Decided cs bk arguments stop r) where

@@ -18,6 +18,7 @@ use Rattle.rules.specs.Single.{single, minuteOf, arrival}
 use Rattle.rules.specs.Joint.{covers, choices, whole, weightOf, total, joint, weightAt}
 use Rattle.rules.specs.Listing.{window, notArrived}
 use Rattle.rules.specs.Demands.{arrivalsSeen, isIn, isNever, arrivesIn, arrivesNever}
+use Rattle.rules.specs.Promised.{forMinute}
 use Rattle.theory_sound.specs.Facts.{Sound}
 use Rattle.theory_lists.specs.Tests.{eqb-turn}
 use Rattle.theory_lists.specs.Every.{Every, every-more}
@@ -96,11 +97,6 @@ minute-by m k (v ∷ vs) h = go (eqb (v .who .train) k) (minute-by m k vs (h .1)
     go : (b : Bool) → By m (minuteOf k vs) → By m (cond b (some (v .minute)) (minuteOf k vs))
     go true ih = h .0
     go false ih = ih
-
--- what f gives for the minute, 0 if there is none
-abbrev pub forMinute : (ℕ → ℕ) → Option ℕ → ℕ
-forMinute f none = 0
-forMinute f (some u) = f u
 
 -- a sum over the window, of the train's minute alone
 window-minute : (f : ℕ → ℕ) (n : ℕ) (o : Option ℕ) → By n o → sum (λ t. f t * tick (isIn t o)) (below (suc n)) ≡ forMinute f o

@@ -15,18 +15,10 @@ use Rattle.rules.specs.Joint.{Entry, choices, weightOf, total, joint, weightAt}
 use Rattle.rules.specs.Listing.{window, notArrived}
 use Rattle.rules.specs.Figures.{plan, weightIn, onTime, late, latenessSum, latenessWeight}
 use Rattle.rules.specs.Turns.{Arrival}
+use Rattle.rules.specs.Promised.{forMinute, arrivesWhen, passesIn}
 use Rattle.theory_sound.specs.Facts.{Sound}
 use Rattle.theory_lists.specs.Sums.{sum-same, sum-plus, sum-keep}
-use Rattle.theory_weights.specs.Arrivals.{Seen, forMinute, window-choices, arrived-total}
-
--- there is a minute, and it passes the test
-abbrev pub passesIn : (ℕ → Bool) → Option ℕ → Bool
-passesIn test none = false
-passesIn test (some u) = test u
-
--- the choice's single run brings train k in in a minute that passes the test
-unfoldable pub arrivesWhen : Case → ℕ → (ℕ → Bool) → List ℕ → Bool
-arrivesWhen C k test x = passesIn test (arrival C x k)
+use Rattle.theory_weights.specs.Arrivals.{Seen, window-choices, arrived-total}
 
 module _ (C : Case) (S : Seen C (C .head .lastMinute)) (k : ℕ) where
   -- the arrivals of the joint run
