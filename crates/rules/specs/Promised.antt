@@ -46,11 +46,11 @@ forMinute f (some u) = f u
 abbrev pub weightWhere : Case → (List ℕ → Bool) → ℕ
 weightWhere C test = sum (weightOf C) (keep test (choices C))
 
--- of those whose single run brings train k to its last station in minute t
+-- the weight of those choices whose single run brings train k to its last station in minute t
 abbrev pub brought : Case → ℕ → ℕ → ℕ
 brought C k t = weightWhere C (arrivesIn C k t)
 
--- of those whose single run brings it there in no minute up to T
+-- the weight of those choices whose single run brings it there in no minute up to T
 abbrev pub missing : Case → ℕ → ℕ
 missing C k = weightWhere C (arrivesNever C k)
 
@@ -58,7 +58,7 @@ missing C k = weightWhere C (arrivesNever C k)
 unfoldable pub countedLines : Case → ℕ → List ℕ
 countedLines C k = each (λ t. minuteLine k t (brought C k t)) (window C) ++ line (decimal k ∷ (45 ∷ []) ∷ decimal (missing C k) ∷ [])
 
--- the listing, counted
+-- the listing, with each weight counted over choices
 unfoldable pub countedListing : Case → List ℕ
 countedListing C = line (totalWord ∷ decimal (total C) ∷ []) ++ each (countedLines C) (below (length (C .trains)))
 
@@ -69,7 +69,7 @@ punctual C k L = weightWhere C (arrivesWhen C k (λ t. leb t (plan C k + L)))
 abbrev pub delayed : Case → ℕ → ℕ → ℕ
 delayed C k L = weightWhere C (arrivesWhen C k (λ t. ltb (plan C k + L) t))
 
--- the figures of train k for a limit of L minutes, counted; the lateness of a choice is its minute after plan, by its weight
+-- the figures of train k for a limit of L minutes, counted over choices; to the lateness each choice adds its minutes after plan, times its weight
 unfoldable pub countedFigures : Case → ℕ → ℕ → Figures
 countedFigures C k L = record {
   punctuality = cond (eqb (punctual C k L) 0) never (cond (eqb (punctual C k L) (total C)) always (share (double (punctual C k L) (total C))));
@@ -114,8 +114,8 @@ pub record Full (asked : ℕ) (m : Memory) (cs bk : List ℕ) (arguments stop : 
 
 -- ---- what a call comes to
 
--- By what decides: whether lent memory lacks bytes; the files; the number for which the arguments are refused, 0 for none; the minute `stop` to which the
--- run goes. S is said of a call that lacks memory, R of one refused, A of one answered.
+-- What decides: whether lent memory lacks bytes; the files; the number for which the arguments are refused, 0 for none; the minute `stop` to which the run goes.
+-- S is what is promised of a call that lacks memory, R of one that is refused, A of one that is answered.
 pub data Outcome (cs bk : List ℕ) (lacks : Bool) (arguments stop : Case → ℕ) (S : Type 0) (R : Refusal → Type 0) (A : Case → Type 0) : Type 0 where
   -- 14, before all others
   lacks-memory : lacks ≡ true → S → Outcome cs bk lacks arguments stop S R A
@@ -129,7 +129,7 @@ pub data Outcome (cs bk : List ℕ) (lacks : Bool) (arguments stop : Case → �
   -- otherwise it is answered
   answers : lacks ≡ false → (C : Case) → files cs bk ≡ answer C → arguments C ≡ 0 → full C (stop C) ≡ false → A C → Outcome cs bk lacks arguments stop S R A
 
--- a call that is answered: the files, the arguments and the room are sound, and A is said of the case
+-- a call that is answered: the files and the arguments are sound, the room suffices, and A is what is promised of the case
 pub record Answers (cs bk : List ℕ) (arguments stop : Case → ℕ) (A : Case → Type 0) : Type 0 where
   pub of : Case
   pub accepted : files cs bk ≡ answer of
@@ -151,7 +151,7 @@ pub record Unused (n m : ℕ) (before after : List ℕ) : Type 0 where
 
 -- what rows and weights hold after an answered run of case C to minute m, whose list has n entries
 pub record Meant (C : Case) (m n : ℕ) (rows weights rows′ weights′ : List ℕ) : Type 0 where
-  -- the first n rows say the list of the joint run
+  -- the first n rows stand for the list of the joint run
   pub entries : entriesIn n rows′ ≡ joint C m .list
   -- demand 3: what a choice sees in these rows is its single run, mark by mark, in order
   pub seen : (x : List ℕ) → Choice C x → view x (entriesIn n rows′) ≡ single C x m .list
