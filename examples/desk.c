@@ -10,15 +10,22 @@
 /* At most the first 4,096 bytes of a file are handed on; what stands past them never changes the answer. */
 enum { HANDED = 4096 };
 
+/* A file that can't be opened or read to its end is never taken for a shorter one. */
+static void unread(const char *name)
+{
+    fprintf(stderr, "desk: %s can't be read\n", name);
+    exit(2);
+}
+
 static size_t read_file(const char *name, uint8_t *bytes)
 {
     FILE *file = fopen(name, "rb");
     size_t length;
-    if (file == NULL) {
-        fprintf(stderr, "desk: %s can't be read\n", name);
-        exit(2);
-    }
+    if (file == NULL)
+        unread(name);
     length = fread(bytes, 1, HANDED, file);
+    if (ferror(file))
+        unread(name);
     fclose(file);
     return length;
 }

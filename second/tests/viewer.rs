@@ -40,7 +40,7 @@ fn kept(path: &str) -> Vec<u8> {
         .expect("a file of the repository")
 }
 
-/// The files that the program `view` views: some of tags and lengths that no reader takes, some cut short, and some that `judge` judges.
+/// The files that the program `tool_view` views: some of tags and lengths that no reader takes, some cut short, and some that `tool_judge` judges.
 fn viewed_files() -> Vec<Vec<u8>> {
     let strange = [field(9, &[1, 2]), field(0, &[]), field(255, &[7; 1_000])].concat();
     let mut files: Vec<Vec<u8>> = (0..6)

@@ -1,5 +1,5 @@
 -- Demands 2 and 3 about the definitions, for every case that the reading accepts from bytes. Each is in the words of the demand, and its proof cites
--- the crates below: `sound` (what the reading makes true), `simulation` (what a choice sees), `weights` (sums over choices). Assumes nothing.
+-- the crates below: `theory_sound` (what the reading makes true), `theory_simulation` (what a choice sees), `theory_weights` (sums over choices). Assumes nothing.
 use mathlib.Core.Path.{_≡_}
 use mathlib.Core.Bool.{_||_, cond}
 use mathlib.Core.List.{List}
