@@ -111,15 +111,23 @@ pub record Piece : Type 0 where
 abbrev pub piece : Cover → Bool → Piece
 piece p h = record { cover = p; held = h }
 
+-- the count n has reached the capacity
+abbrev pub reached : ℕ → ℕ → Bool
+reached cap n = leb cap n
+
+-- the count n plus the number of entries still to meet is below the capacity
+abbrev pub staysBelow : ℕ → ℕ → ℕ → Bool
+staysBelow cap n left = ltb (n + left) cap
+
 -- What becomes of the piece p with count n, carried through the covers still to meet; `cap` is the capacity. A piece whose count has reached the capacity is held.
 -- Otherwise, if its count plus the number of entries still to meet is below the capacity, it enters uncut. Otherwise it meets the next, q. No common choice: it goes
 -- on. Else the inside, c, goes on first with count plus 1; then the outside pieces with the same count; each is carried through the entries still to meet.
 unfoldable pub carry : ℕ → List Cover → ℕ → Cover → List Piece
-carry cap [] n p = piece p (leb cap n) ∷ []
+carry cap [] n p = piece p (reached cap n) ∷ []
 carry cap (q ∷ qs) n p =
     let c = inside p q in
-    cond (leb cap n) (piece p true ∷ [])
-    (cond (ltb (n + suc (length qs)) cap) (piece p false ∷ [])
+    cond (reached cap n) (piece p true ∷ [])
+    (cond (staysBelow cap n (suc (length qs))) (piece p false ∷ [])
     (cond (apart c) (carry cap qs n p)
     (carry cap qs (suc n) c ++ each (carry cap qs n) (outsides p c))))
 

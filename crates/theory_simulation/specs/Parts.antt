@@ -3,13 +3,13 @@
 use mathlib.Core.Path.{_≡_, refl, sym, ap, _∙_, subst}
 use mathlib.Core.Bool.{Bool, true, false, _&&_, _||_, cond, false≢true}
 use mathlib.Core.List.{List, [], _∷_, _++_}
-use Prim.Native.Nat.{ℕ, zero, suc, _+_, _≤_, _<_}
+use Prim.Native.Nat.{ℕ, zero, suc, _≤_, _<_}
 use native.Mathlib.Omega.{arith}
 use lib.ListN.{length, getD, set}
-use lib.Dec.{leb, ltb, eqb}
+use lib.Dec.{eqb}
 use borrow.Author.Tests.{not-true}
 use Rattle.rules.specs.Lists.{one, each, keep, any, tick, count, has}
-use Rattle.rules.specs.Joint.{Cover, common, without, isEmpty, inside, apart, outsides, Piece, piece, carry}
+use Rattle.rules.specs.Joint.{Cover, common, without, isEmpty, inside, apart, outsides, piece, reached, staysBelow, carry}
 use Rattle.theory_lists.specs.Each.{each-each, each-one, each-same}
 use Rattle.theory_lists.specs.Every.{Every, every-append, every-map, every-one, every-each, has-keep}
 use Rattle.theory_lists.specs.Sums.{sum-keep-le}
@@ -104,14 +104,15 @@ outsides-parts (w ∷ ws) (s ∷ p) (u ∷ c) h k =
     let later = every-map (Parts ws) (Parts (w ∷ ws)) (λ q. u ∷ q) (λ q g. (k .0, g)) (outsides p c) (outsides-parts ws p c (h .1) (k .1)) in
     search (every-append, every-one, keep-part, not-true, later)
 
--- one turn of a piece, where what is carried on stays a part, whatever its count
-cut-parts : (ws : Cover) (full few none : Bool) (on : ℕ → Cover → List Piece) (n : ℕ) (p c : Cover)
-    → ((m : ℕ) (q : Cover) → Parts ws q → Every (λ r. Parts ws (r .cover)) (on m q)) → Parts ws p → (none ≡ false → Parts ws c)
-    → Every (λ r. Parts ws (r .cover)) (cond full (piece p true ∷ []) (cond few (piece p false ∷ []) (cond none (on n p) (on (suc n) c ++ each (on n) (outsides p c)))))
-cut-parts ws true few none on n p c carried h k = (h, tt)
-cut-parts ws false true none on n p c carried h k = (h, tt)
-cut-parts ws false false true on n p c carried h k = carried _ p h
-cut-parts ws false false false on n p c carried h k =
+-- one turn of a piece, where what is carried on stays a part, whatever the tests and the counts
+cut-parts : (ws : Cover) (cap : ℕ) (qs : List Cover) (full few none : Bool) (n a b : ℕ) (p c : Cover)
+    → ((m : ℕ) (q : Cover) → Parts ws q → Every (λ r. Parts ws (r .cover)) (carry cap qs m q)) → Parts ws p → (none ≡ false → Parts ws c)
+    → Every (λ r. Parts ws (r .cover))
+    (cond full (piece p true ∷ []) (cond few (piece p false ∷ []) (cond none (carry cap qs n p) (carry cap qs a c ++ each (carry cap qs b) (outsides p c)))))
+cut-parts ws cap qs true few none n a b p c carried h k = (h, tt)
+cut-parts ws cap qs false true none n a b p c carried h k = (h, tt)
+cut-parts ws cap qs false false true n a b p c carried h k = carried _ p h
+cut-parts ws cap qs false false false n a b p c carried h k =
     let outer = outsides-parts ws p c h (k refl) in
     search (every-append, every-each, carried, k)
 
@@ -121,5 +122,5 @@ pub carry-parts : (ws : Cover) (cap : ℕ) (qs : List Cover) → Every (Parts ws
 unfolding carry
 carry-parts ws cap [] fs n p h = (h, tt)
 carry-parts ws cap (q ∷ qs) fs n p h =
-    cut-parts ws (leb cap n) (ltb (n + suc (length qs)) cap) (apart (inside p q)) (carry cap qs) n p (inside p q) (carry-parts ws cap qs (fs .1)) h
+    cut-parts ws cap qs (reached cap n) (staysBelow cap n (suc (length qs))) (apart (inside p q)) _ _ _ p (inside p q) (carry-parts ws cap qs (fs .1)) h
     (inside-parts ws p q h (fs .0))

@@ -7,14 +7,13 @@ use Prim.Native.Nat.{ℕ, zero, suc, _+_, _≤_}
 use native.Mathlib.Nat.{le-trans, le-of-eq}
 use native.Mathlib.Omega.{arith}
 use lib.ListN.{length, length-append}
-use lib.Dec.{leb, ltb}
 use borrow.Author.Tests.{ltb-true, lt-ltb}
 use Rattle.rules.specs.Lists.{one, each, keep, any, below, fold}
 use Rattle.rules.specs.Files.{Case}
 use Rattle.rules.specs.Turns.{Place, same, Mark, State, state, Row, items, Visit, Turn, Rules, capacity, ended, asks, elements, entered, next, serveNext, turns, visit, minute, minutes, runFrom}
 use Rattle.rules.specs.Turns.Place.{gone}
 use Rattle.rules.specs.Turns.Turn.{nobody, somebody}
-use Rattle.rules.specs.Joint.{Cover, inside, apart, outsides, Piece, piece, carry, meets, pieces, Entry, serveEntry, jointRules}
+use Rattle.rules.specs.Joint.{Cover, Piece, piece, carry, meets, pieces, Entry, serveEntry, jointRules}
 use Rattle.rules.specs.Demands.{rowsAfter, turnList, turnLists, visitLists, visitsLists, minuteLists, minutesLists, runLists, passes}
 use Rattle.theory_lists.specs.Tests.{or-true-second, or-brings, or-middle}
 use Rattle.theory_lists.specs.Every.{any-append}
@@ -157,7 +156,10 @@ some-map f (a ∷ l) h = omega arith
 some-append : {A : Type 0} (s t : List A) → 1 ≤ length s → 1 ≤ length (s ++ t)
 some-append s t h = omega (arith, length-append s t)
 
--- of four ways each comes to at least one piece
+some-piece : (p : Piece) → 1 ≤ length (p ∷ [])
+some-piece p = omega arith
+
+-- of two ways each comes to at least one piece
 cond-some : (b : Bool) (s t : List Piece) → 1 ≤ length s → 1 ≤ length t → 1 ≤ length (cond b s t)
 cond-some true s t h k = h
 cond-some false s t h k = k
@@ -167,10 +169,8 @@ carry-some : (cap : ℕ) (qs : List Cover) (n : ℕ) (p : Cover) → 1 ≤ lengt
 unfolding carry
 carry-some cap [] n p = omega arith
 carry-some cap (q ∷ qs) n p =
-    cond-some (leb cap n) _ _ (omega arith)
-    (cond-some (ltb (n + suc (length qs)) cap) _ _ (omega arith)
-    (cond-some (apart (inside p q)) _ _ (carry-some cap qs n p)
-    (some-append (carry cap qs (suc n) (inside p q)) (each (carry cap qs n) (outsides p (inside p q))) (carry-some cap qs (suc n) (inside p q)))))
+    let carried = carry-some cap qs in
+    search (cond-some, some-piece, some-append, carried)
 
 pieces-some : (C : Case) (e : Place) (rs : List Entry) (r : Entry) → 1 ≤ length (pieces C e rs r)
 unfolding pieces
