@@ -1,0 +1,60 @@
+/* Reading and writing files, with every error said. */
+#include "input.h"
+
+#include <errno.h>
+#include <string.h>
+
+#include "said.h"
+
+static int is_standard(const char *name)
+{
+    return name == NULL || strcmp(name, "-") == 0;
+}
+
+int read_input(const char *name, struct input *input)
+{
+    FILE *file = is_standard(name) ? stdin : fopen(name, "rb");
+    int failed, error;
+    if (file == NULL) {
+        misused("%s can't be opened: %s", name, strerror(errno));
+        return 0;
+    }
+    errno = 0;
+    input->text.length = fread(input->text.at, 1, MOST_TEXT, file);
+    input->longer = input->text.length == MOST_TEXT && getc(file) != EOF;
+    error = errno;
+    failed = ferror(file);
+    if (file != stdin)
+        fclose(file);
+    if (failed)
+        misused("%s can't be read to its end: %s", is_standard(name) ? "standard input" : name, strerror(error));
+    return !failed;
+}
+
+int is_text(const struct input *input)
+{
+    for (size_t i = 0; i < input->text.length; i++) {
+        unsigned char byte = (unsigned char)input->text.at[i];
+        if ((byte < 32 && byte != '\t' && byte != '\n' && byte != '\r') || byte == 127)
+            return 0;
+    }
+    return input->text.length > 0;
+}
+
+FILE *begin_output(const char *name)
+{
+    FILE *out = is_standard(name) ? stdout : fopen(name, "wb");
+    if (out == NULL)
+        misused("%s can't be written: %s", name, strerror(errno));
+    return out;
+}
+
+int end_output(FILE *out, const char *name)
+{
+    int failed = ferror(out) | fflush(out);
+    if (out != stdout)
+        failed |= fclose(out);
+    if (failed)
+        return misused("%s can't be written to its end", is_standard(name) ? "standard output" : name);
+    return ANSWERED;
+}

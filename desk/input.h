@@ -1,0 +1,27 @@
+/* Files read and written. */
+#ifndef DESK_INPUT_H
+#define DESK_INPUT_H
+
+#include <stdio.h>
+
+#include "text.h"
+
+/* Reads a file, `-` being standard input, up to the most that a text has; false, and said, if it can't be read to its end. A longer file is cut, and
+ * `longer` says so. */
+struct input {
+    struct text text;
+    int longer;
+};
+int read_input(const char *name, struct input *input);
+
+/* Whether what was read is text: it has bytes, and no control character but tab, line feed and carriage return. An accepted case or book begins with its first
+ * tag, a control character, so it is never taken for text. */
+int is_text(const struct input *input);
+
+/* Opens a file to write to, standard output if the name is null or `-`; null, and said, if that can't be had. */
+FILE *begin_output(const char *name);
+
+/* Ends it and gives the program's exit status: ANSWERED, or MISUSED, and said, if not all could be written. */
+int end_output(FILE *out, const char *name);
+
+#endif

@@ -1,0 +1,190 @@
+/* Words of the command line, judged as strictly as files. */
+#include "options.h"
+
+#include <stddef.h>
+#include <string.h>
+
+#include "numbers.h"
+#include "said.h"
+
+static const struct command commands[] = {
+    {"check", "say whether a case is sound, and what it holds", "It judges the files as every run does, and then runs the whole window to see whether the room suffices.",
+     TAKES_BOOK | TAKES_NAMES, command_check},
+    {"listing", "print the minutes in which each train can arrive, with their weights",
+     "All choices of delays together weigh 100 to the power of the number of trains. The weight of a minute is the exact sum over the choices that bring the train\n"
+     "to its last station in that minute.",
+     TAKES_BOOK | TAKES_NAMES | TAKES_BARS | TAKES_PLAIN, command_listing},
+    {"figures", "print each train's punctuality: on time, late, not arrived, mean lateness",
+     "Shares are of 100 choices by weight. The columns 50, 80 and 95 have the first minute by which at least as many of 100 choices have arrived.",
+     TAKES_BOOK | TAKES_NAMES | TAKES_TRAIN | TAKES_LIMIT, command_figures},
+    {"run", "print the list of entries after a minute, and what has arrived by then",
+     "Without --stop it runs to the last minute. Each entry is a train that stands somewhere, or a block that it left, in the choices that its cover names.",
+     TAKES_BOOK | TAKES_NAMES | TAKES_STOP, command_run},
+    {"single", "run one choice of delays, and print when each train arrives", "The choice is one delay for each train, in the order of the case: --delays by minutes, or --choice by index.",
+     TAKES_BOOK | TAKES_NAMES | TAKES_TRAIN | TAKES_DELAYS | TAKES_CHOICE, command_single},
+    {"draw", "draw a picture (SVG) of each train's arrivals, or of the shift",
+     "Without --shift it draws each train's arrivals: the plan, the weight of each minute, what has not arrived, and the summed curve. With --shift it draws the planned\n"
+     "paths over stations and tracks by minute, and how much weight stands where.",
+     TAKES_BOOK | TAKES_NAMES | TAKES_SHIFT | TAKES_OUTPUT, command_draw},
+    {"compile", "make the bytes of a case or a book from its text", "A text that can't be compiled is refused with line, column and what was expected there. Bytes that the reader refuses are not written.",
+     TAKES_BOOK | TAKES_AS_BOOK | TAKES_OUTPUT, command_compile},
+    {"show", "print a case or a book as text", "With --fields it prints the bytes field by field, of a damaged file too.",
+     TAKES_BOOK | TAKES_NAMES | TAKES_AS_BOOK | TAKES_FIELDS | TAKES_OUTPUT, command_show},
+};
+
+enum kind { FLAG, NUMBER, WORDS };
+
+struct word {
+    const char *option, *value; /* as written, and what its value is called */
+    const char *help;
+    enum option bit;
+    enum kind kind;
+    size_t member; /* of struct request */
+};
+
+static const struct word options[] = {
+    {"--book", "FILE", "the book: delay tables for types that have none in the case; text or bytes", TAKES_BOOK, WORDS, offsetof(struct request, book_name)},
+    {"--names", "TEXT", "the text that the case was compiled from, for the names of a case given as bytes", TAKES_NAMES, WORDS, offsetof(struct request, names)},
+    {"--output", "FILE", "write to this file, not to standard output; -o is short for it", TAKES_OUTPUT, WORDS, offsetof(struct request, output)},
+    {"--train", "TRAIN", "only this train, by its name or number", TAKES_TRAIN, WORDS, offsetof(struct request, train)},
+    {"--delays", "LIST", "a delay for each train in minutes, as +3,+0", TAKES_DELAYS, WORDS, offsetof(struct request, delays)},
+    {"--choice", "LIST", "an index for each train, counted from 0 in its table, as 1,0", TAKES_CHOICE, WORDS, offsetof(struct request, choice)},
+    {"--limit", "MINUTES", "how many minutes after plan still count as on time, 0 to 65535; 0 if left out", TAKES_LIMIT, NUMBER, offsetof(struct request, limit)},
+    {"--stop", "MINUTE", "the minute after which the run stops, 0 to 65535", TAKES_STOP, NUMBER, offsetof(struct request, stop)},
+    {"--bars", NULL, "draw a bar for each weight", TAKES_BARS, FLAG, offsetof(struct request, bars)},
+    {"--plain", NULL, "print exactly what the program `shift` prints, by numbers", TAKES_PLAIN, FLAG, offsetof(struct request, plain)},
+    {"--as-book", NULL, "the file is a book, not a case", TAKES_AS_BOOK, FLAG, offsetof(struct request, as_book)},
+    {"--fields", NULL, "print each field's place, tag, length and bytes", TAKES_FIELDS, FLAG, offsetof(struct request, fields)},
+    {"--shift", NULL, "draw the shift: planned paths, and how much weight stands where", TAKES_SHIFT, FLAG, offsetof(struct request, shift)},
+};
+
+#define COUNT(list) (sizeof(list) / sizeof *(list))
+
+const struct command *find_command(const char *name)
+{
+    for (size_t i = 0; i < COUNT(commands); i++)
+        if (strcmp(commands[i].name, name) == 0)
+            return &commands[i];
+    return NULL;
+}
+
+/* ---- help */
+
+void print_help(FILE *out)
+{
+    fputs("Use: lampreysong COMMAND FILE [OPTION..]\n\n"
+          "Carries all combinations of delays through a shift of a mine railway together, and says when each train can arrive.\n"
+          "FILE is a case: text (`man lampreysong` and docs/FORMATS.md show how to write one) or bytes; - is standard input.\n\nCommands:\n",
+          out);
+    for (size_t i = 0; i < COUNT(commands); i++)
+        fprintf(out, "  %-8s %s\n", commands[i].name, commands[i].does);
+    fputs("\n`lampreysong COMMAND --help` tells of a command's options, `lampreysong --version` of the program.\n"
+          "Exit status: 0 for an answer, 1 for a refused case, 2 for misuse or a file that can't be read or written.\n",
+          out);
+}
+
+static void print_option(FILE *out, const char *option, const char *value, const char *help)
+{
+    char written[32];
+    snprintf(written, sizeof written, "%s%s%s", option, value != NULL ? " " : "", value != NULL ? value : "");
+    fprintf(out, "  %-16s %s\n", written, help);
+}
+
+void print_command_help(FILE *out, const struct command *command)
+{
+    fprintf(out, "Use: lampreysong %s FILE [OPTION..]: %s\n\n%s\n\nOptions:\n", command->name, command->does, command->more);
+    for (size_t i = 0; i < COUNT(options); i++)
+        if (command->takes & options[i].bit)
+            print_option(out, options[i].option, options[i].value, options[i].help);
+    print_option(out, "--help", NULL, "print this");
+}
+
+/* ---- words */
+
+static const struct word *find_option(const struct command *command, const char *option, size_t length)
+{
+    if (length == 2 && strncmp(option, "-o", 2) == 0)
+        return find_option(command, "--output", 8);
+    for (size_t i = 0; i < COUNT(options); i++)
+        if ((command->takes & options[i].bit) && strlen(options[i].option) == length && strncmp(options[i].option, option, length) == 0)
+            return &options[i];
+    return NULL;
+}
+
+static void *member_of(struct request *request, const struct word *word)
+{
+    return (char *)request + word->member;
+}
+
+static int store(struct request *request, const struct word *word, const char *value)
+{
+    unsigned long number;
+    if (word->kind == WORDS) {
+        *(const char **)member_of(request, word) = value;
+        return 1;
+    }
+    if (!read_number(value, 65535, &number)) {
+        misused("%s %s: a whole number of 0 to 65535 is expected, in digits and without leading zeros", word->option, value);
+        return 0;
+    }
+    *(int32_t *)member_of(request, word) = (int32_t)number;
+    return 1;
+}
+
+/* An option at the first word, and its value after = or in the next word. Gives the last word that it took; null, and said, if it is misused. */
+static char **read_option(const struct command *command, char **words, unsigned *given, struct request *request)
+{
+    const char *equals = strchr(*words, '=');
+    size_t length = equals != NULL ? (size_t)(equals - *words) : strlen(*words);
+    const struct word *word = find_option(command, *words, length);
+    if (word == NULL)
+        misused("%s has no option %.*s; `lampreysong %s --help` lists its options", command->name, (int)length, *words, command->name);
+    else if (*given & word->bit)
+        misused("%s is given twice", word->option);
+    else if (word->kind == FLAG && equals != NULL)
+        misused("%s takes no value", word->option);
+    else if (word->kind != FLAG && equals == NULL && words[1] == NULL)
+        misused("%s needs a value, %s: %s", word->option, word->value, word->help);
+    else {
+        *given |= word->bit;
+        if (word->kind == FLAG)
+            *(int *)member_of(request, word) = 1;
+        else if (!store(request, word, equals != NULL ? equals + 1 : *++words))
+            return NULL;
+        return words;
+    }
+    return NULL;
+}
+
+static int take_case_name(struct request *request, const char *word)
+{
+    if (request->case_name != NULL) {
+        misused("one file is expected, and %s is a second one; a book is given by --book FILE", word);
+        return 0;
+    }
+    request->case_name = word;
+    return 1;
+}
+
+int read_words(const struct command *command, char **words, struct request *request, int *help)
+{
+    unsigned given = 0;
+    int files_only = 0;
+    memset(request, 0, sizeof *request);
+    request->limit = request->stop = -1;
+    *help = 0;
+    for (; *words != NULL; words++) {
+        if (!files_only && (strcmp(*words, "--help") == 0 || strcmp(*words, "-h") == 0))
+            return *help = 1;
+        if (!files_only && strcmp(*words, "--") == 0)
+            files_only = 1;
+        else if (files_only || **words != '-' || (*words)[1] == '\0') {
+            if (!take_case_name(request, *words))
+                return 0;
+        } else if ((words = read_option(command, words, &given, request)) == NULL)
+            return 0;
+    }
+    if (request->case_name == NULL)
+        misused("%s needs a file; `lampreysong %s --help` tells how it is used", command->name, command->name);
+    return request->case_name != NULL;
+}
