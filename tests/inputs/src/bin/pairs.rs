@@ -2,9 +2,11 @@
 //!
 //! `pairs SEED DRAWS` writes hand-made pairs and, of DRAWS drawn ones, the first few of each kind of refusal: a kind is the number, the file and the
 //! tag at the place. A pair is the case's length (2), the book's length (2), the case and the book.
+//! `pairs every SEED COUNT` writes every input that is drawn from COUNT seeds, from SEED on, sound and damaged.
 //! `pairs` alone reads such pairs and prints a line for each: `accepted`, or the refusal's number, file and place.
 
 use inputs::damage::damaged;
+use inputs::drawn;
 use inputs::generator::{sound, Chance, Size};
 use inputs::writer::{head, station, table, track, train};
 use second::plan::Plan;
@@ -26,15 +28,18 @@ const SMALL: Size = Size {
 type Pair = (Vec<u8>, Vec<u8>);
 
 fn main() -> ExitCode {
-    let arguments: Vec<Option<u64>> = std::env::args()
-        .skip(1)
-        .map(|word| word.parse().ok())
-        .collect();
-    let written = match arguments.as_slice() {
-        [] => judge(),
-        [Some(seed), Some(draws)] => io::stdout().write_all(&drawn(*seed, *draws)),
+    let mut words: Vec<String> = std::env::args().skip(1).collect();
+    let every = words.first().map_or(false, |word| word == "every");
+    if every {
+        words.remove(0);
+    }
+    let numbers: Vec<Option<u64>> = words.iter().map(|word| word.parse().ok()).collect();
+    let written = match numbers.as_slice() {
+        [] if !every => judge(),
+        [Some(seed), Some(seeds)] if every => io::stdout().write_all(&every_drawn(*seed, *seeds)),
+        [Some(seed), Some(draws)] => io::stdout().write_all(&of_each_kind(*seed, *draws)),
         _ => {
-            eprintln!("use: pairs [SEED DRAWS]");
+            eprintln!("use: pairs [[every] SEED COUNT]");
             return ExitCode::from(2);
         }
     };
@@ -44,8 +49,19 @@ fn main() -> ExitCode {
     }
 }
 
-/// The pairs as bytes.
-fn drawn(seed: u64, draws: u64) -> Vec<u8> {
+/// Every input of so many seeds, as bytes.
+fn every_drawn(seed: u64, seeds: u64) -> Vec<u8> {
+    let mut bytes = Vec::new();
+    for seed in seed..seed + seeds {
+        for files in drawn::drawn(&mut Chance::new(seed)) {
+            add(&mut bytes, &(files.case, files.book));
+        }
+    }
+    bytes
+}
+
+/// The hand-made pairs and the first few of each kind, as bytes.
+fn of_each_kind(seed: u64, draws: u64) -> Vec<u8> {
     let mut chance = Chance::new(seed);
     let mut kept: HashMap<(u16, u16, u8), usize> = HashMap::new();
     let mut bytes = Vec::new();
