@@ -2,20 +2,29 @@
 #include <stdio.h>
 #include <string.h>
 
-#include "options.h"
 #include "input.h"
+#include "options.h"
+#include "refusal.h"
 #include "said.h"
 
-#ifndef VERSION
-#define VERSION "unversioned"
-#endif
+#define VERSION "1.0"
+#define RULES "document 01, no change requests"
+
+/* The toolchain that proved the engine; who builds says it. */
 #ifndef TOOLCHAIN
-#define TOOLCHAIN "an unnamed toolchain"
+#define TOOLCHAIN "a toolchain that was not named"
 #endif
 
 static int version(void)
 {
-    printf("lampreysong %s\nproved with %s\n", VERSION, TOOLCHAIN);
+    printf("lampreysong %s\nrules: %s\nproved with %s\n", VERSION, RULES, TOOLCHAIN);
+    return end_output(stdout, NULL);
+}
+
+static int refusals(void)
+{
+    for (unsigned number = LAMPREYSONG_OVERRUN; number <= LAMPREYSONG_STOP_TOO_LATE; number++)
+        printf("%2u  %s\n", number, refusal_meaning(number));
     return end_output(stdout, NULL);
 }
 
@@ -39,6 +48,8 @@ int main(int count, char **words)
     }
     if (strcmp(words[1], "--version") == 0)
         return version();
+    if (strcmp(words[1], "--refusals") == 0)
+        return refusals();
     if (strcmp(words[1], "--help") == 0 || strcmp(words[1], "-h") == 0)
         return help(NULL);
     command = find_command(words[1]);

@@ -78,7 +78,7 @@ void print_help(FILE *out)
           out);
     for (size_t i = 0; i < COUNT(commands); i++)
         fprintf(out, "  %-8s %s\n", commands[i].name, commands[i].does);
-    fputs("\n`lampreysong COMMAND --help` tells of a command's options, `lampreysong --version` of the program.\n"
+    fputs("\n`lampreysong COMMAND --help` tells of a command's options, `lampreysong --refusals` what each refusal means, `lampreysong --version` which program this is.\n"
           "Exit status: 0 for an answer, 1 for a refused case, 2 for misuse or a file that can't be read or written.\n",
           out);
 }
