@@ -1,4 +1,4 @@
-/* The planning desk's calls: the single run, the joint run, the listing and the figures of a shift.
+/* The planning desk's calls: the single run, the joint run, the listing and the figures of a shift, and the field viewer.
  *
  * A case and a book are bytes (docs/FORMATS.md). Every call takes any bytes, damaged ones too: it answers, or it refuses with a number, a file
  * and a place. Nothing is kept between calls, nothing is allocated, and a call needs less than 512 KiB of stack.
@@ -78,6 +78,15 @@ struct lampreysong_train_figures {
     uint64_t kept[4];   /* 0 */
 };
 
+/* What the field viewer gives at a place: 16 bytes. All but `next` is 0 if the file has ended. */
+struct lampreysong_viewed {
+    uint16_t refusal; /* 1 if the header or the body of the field at the place runs past the end, else 0 */
+    uint16_t given;   /* 1 if a field was given; 0 if the file has ended or the field is refused */
+    uint16_t tag;     /* of the field; 0 if none was given */
+    uint16_t size;    /* of its body; 0 if none was given */
+    uint64_t next;    /* the viewer's place afterwards: past the field, or the same place if none was given */
+};
+
 /* The minute in which the choice (one index byte a train) brings the train to its last station. Refuses the files' faults (1 to 11), then 15, 16. */
 struct lampreysong_answer lampreysong_single(const uint8_t *case_bytes, size_t case_length, const uint8_t *book, size_t book_length,
                                              const uint8_t *choice, size_t choice_length, uint64_t train);
@@ -93,6 +102,10 @@ struct lampreysong_answer lampreysong_listing(const uint8_t *case_bytes, size_t 
 /* The figures of a train for a limit in minutes, with rows and weights after the last minute. Refuses 14, the files' faults, 16, 12. */
 struct lampreysong_train_figures lampreysong_figures(const uint8_t *case_bytes, size_t case_length, const uint8_t *book, size_t book_length, uint64_t train,
                                                uint16_t limit, uint8_t *rows, size_t rows_length, uint8_t *weights, size_t weights_length);
+
+/* The field at a place of a case or a book, an offset from its start, and the place of the next. It judges no tag and no length: it gives the field, or
+ * says that the file has ended, as it has at every place past the end, or gives refusal 1 and stays. A walk over a file starts at place 0. */
+struct lampreysong_viewed lampreysong_field(const uint8_t *file, size_t length, uint64_t place);
 
 #ifdef __cplusplus
 }

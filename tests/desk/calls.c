@@ -31,6 +31,7 @@ static void layouts(void)
 {
     typedef struct lampreysong_answer answer;
     typedef struct lampreysong_train_figures figures;
+    typedef struct lampreysong_viewed viewed;
     expect(sizeof(answer) == 16, "an answer has 16 bytes");
     expect(offsetof(answer, refusal) == 0 && offsetof(answer, file) == 2, "an answer's refusal and file");
     expect(offsetof(answer, place) == 4 && offsetof(answer, value) == 8, "an answer's place and value");
@@ -39,6 +40,9 @@ static void layouts(void)
     expect(offsetof(figures, punctuality) == 8 && offsetof(figures, zero) == 12 && offsetof(figures, share) == 16, "the figures' share");
     expect(offsetof(figures, on_time) == 24 && offsetof(figures, late) == 32 && offsetof(figures, not_arrived) == 40, "the three shares");
     expect(offsetof(figures, lateness) == 48 && offsetof(figures, arrived) == 56 && offsetof(figures, kept) == 64, "the lateness");
+    expect(sizeof(viewed) == 16, "what is viewed has 16 bytes");
+    expect(offsetof(viewed, refusal) == 0 && offsetof(viewed, given) == 2 && offsetof(viewed, tag) == 4, "what is viewed: its tag");
+    expect(offsetof(viewed, size) == 6 && offsetof(viewed, next) == 8, "what is viewed: its length and the place then");
     expect(sizeof rows == 16384 && sizeof weights == 40320 && sizeof text == 32768, "the required lengths");
 }
 
@@ -68,10 +72,27 @@ static void calls(void)
     expect(f.refusal == LAMPREYSONG_NO_TRAIN && f.punctuality == LAMPREYSONG_REFUSED && f.arrived == 0, "the figures of no train");
 }
 
+static int same(struct lampreysong_viewed v, int refusal, int given, int tag, int size, uint64_t next)
+{
+    return v.refusal == refusal && v.given == given && v.tag == tag && v.size == size && v.next == next;
+}
+
+static void fields(void)
+{
+    expect(same(lampreysong_field(shift, sizeof shift, 0), 0, 1, 1, 5, 8), "the first field");
+    expect(same(lampreysong_field(shift, sizeof shift, 52), 0, 1, 5, 5, 60), "the last field");
+    expect(same(lampreysong_field(shift, sizeof shift, 60), 0, 0, 0, 0, 60), "the end");
+    expect(same(lampreysong_field(shift, 59, 52), LAMPREYSONG_OVERRUN, 0, 0, 0, 52), "a body past the end");
+    expect(same(lampreysong_field(shift, 54, 52), LAMPREYSONG_OVERRUN, 0, 0, 0, 52), "a header past the end");
+    expect(same(lampreysong_field(shift, sizeof shift, UINT64_MAX), 0, 0, 0, 0, UINT64_MAX), "the last place that there is");
+    expect(same(lampreysong_field(NULL, 0, 0), 0, 0, 0, 0, 0), "no bytes at all");
+}
+
 int main(void)
 {
     layouts();
     calls();
+    fields();
     printf("%d passed, %d failed\n", passed, failed);
     return failed != 0;
 }

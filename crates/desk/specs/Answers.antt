@@ -5,6 +5,7 @@ use mathlib.Core.List.{List, [], _∷_}
 use mathlib.Core.Option.{Option}
 use Prim.Native.Nat.{ℕ}
 use Rattle.rules.specs.Refusals.{Refusal, Result}
+use Rattle.rules.specs.Viewer.{viewed}
 use Rattle.rules.specs.Calls.{Memory, Lent, singleRun, runCall, listingCall, figuresCall}
 use Rattle.rules.specs.Figures as rules
 use Rattle.rules.specs.Answers as answers
@@ -12,6 +13,7 @@ use Rattle.out_figures.specs.declared.Figures.{Figures}
 use Rattle.out_figures.specs.Answers.{caseOf}
 use Rattle.desk.specs.declared.Answer.{Answer}
 use Rattle.desk.specs.declared.TrainFigures.{TrainFigures}
+use Rattle.desk.specs.declared.Viewed.{Viewed}
 
 -- ---- the single run, the run and the listing
 
@@ -71,6 +73,16 @@ trainFigures a f = figuresStruct (record {
   arrived = f .weight;
 })
 
+-- ---- the field viewer
+
+-- the struct of its answer
+abbrev pub viewedStruct : answers.ViewAnswer → Viewed
+viewedStruct a = record { refusal = a .refusal; given = a .given; tag = a .tag; size = a .size; next = a .next }
+
+-- what is given of a file at a place
+abbrev pub viewedOf : List ℕ → ℕ → Viewed
+viewedOf l i = viewedStruct (answers.viewAnswer i (viewed l i))
+
 -- ---- lent memory
 
 -- a call that is lent no text
@@ -108,3 +120,7 @@ ListingGives cs bk rows weights text a rows′ weights′ text′ = GivesText an
 -- `lampreysong_figures`
 abbrev pub FiguresGives : List ℕ → List ℕ → ℕ → ℕ → List ℕ → List ℕ → TrainFigures → List ℕ → List ℕ → Type 0
 FiguresGives cs bk train limit rows weights a rows′ weights′ = Gives figuresOf (figuresCall cs bk train limit (lentTwo rows weights)) a rows′ weights′
+
+-- `lampreysong_field`
+abbrev pub FieldGives : List ℕ → ℕ → Viewed → Type 0
+FieldGives l i a = a ≡ viewedOf l i

@@ -1,5 +1,6 @@
 // The planning desk's calls: C functions on numbers and byte slices. Nothing is kept between calls.
 // A call is lent memory for what it fills: rows, weights and text; docs/FORMATS.md has their images.
+use file_fields::Field;
 use file_fields::refusals;
 use file_lookup::Files;
 use file_lookup::Sizes;
@@ -14,7 +15,7 @@ ghost use Rattle.rules.specs.Files as rulesFiles;
 ghost use Rattle.rules.specs.Calls.{filled};
 ghost use Rattle.rules.specs.Answers.{punctualityNumber, punctualityValue};
 ghost use Rattle.out_figures.specs.Answers as told;
-ghost use Rattle.desk.specs.Answers.{refusedWith, answered, trainFigures, SingleGives, RunGives, ListingGives, FiguresGives};
+ghost use Rattle.desk.specs.Answers.{refusedWith, answered, trainFigures, SingleGives, RunGives, ListingGives, FiguresGives, FieldGives};
 ghost use Rattle.desk.specs.Steps.{Fits, Begins, Start, runOf, Tells, filesAnswer, Ran, Filled, Laid, Printable, Printed, Measurable, Measured};
 
 // What the single run, the run and the listing answer; `refusal` is 0 if the call was answered.
@@ -41,6 +42,16 @@ pub struct TrainFigures {
     pub lateness: u64,
     pub arrived: u64,
     pub kept: [u64; 4],
+}
+
+// What the field viewer gives at a place: `refusal` is 1 if a field runs past the end, `given` is 1 if there is a whole one.
+#[repr(C)]
+pub struct Viewed {
+    pub refusal: u16,
+    pub given: u16,
+    pub tag: u16,
+    pub size: u16,
+    pub next: u64,
 }
 
 // A refusal as an answer.
@@ -328,4 +339,35 @@ pub extern "C" fn lampreysong_figures<'a>(
     }
     let z = measure(&tables, &ws, train, limit);
     train_figures(a, z)
+}
+
+// What the field viewer gives at a place of a file, and its place then: past the field, or the same if none was given.
+#[no_mangle]
+pub extern "C" fn lampreysong_field(file: &[u8], place: u64) -> Viewed
+    ensures { λ r. ⌜ FieldGives (now (file .entry)) place r ⌝ }
+{
+    let f = file_fields::field_at(file, place as usize);
+    match f {
+        Field::Whole { tag, size, end } => Viewed {
+            refusal: 0,
+            given: 1,
+            tag: tag as u16,
+            size: size as u16,
+            next: end as u64,
+        },
+        Field::Ended => Viewed {
+            refusal: 0,
+            given: 0,
+            tag: 0,
+            size: 0,
+            next: place,
+        },
+        Field::Overrun => Viewed {
+            refusal: refusals::OVERRUN as u16,
+            given: 0,
+            tag: 0,
+            size: 0,
+            next: place,
+        },
+    }
 }

@@ -1,5 +1,5 @@
 -- Each answer belongs to one result: what a call answers as numbers tells whether it was refused, for what, and otherwise its value.
--- A refusal's number is never 0, and 65,535 is no minute of a window. Assumes nothing.
+-- A refusal's number is never 0, and 65,535 is no minute of a window. The field viewer's answer tells whether a field was given, and which. Assumes nothing.
 use mathlib.Core.Path.{_≡_, refl, sym, ap, _∙_, subst}
 use mathlib.Core.List.{List, []}
 use mathlib.Core.Option.{Option, none, some}
@@ -13,8 +13,10 @@ use Rattle.rules.specs.Files.{Case, files}
 use Rattle.rules.specs.Single.{arrival}
 use Rattle.rules.specs.Figures.{Punctuality, Shares, Figures, figures}
 use Rattle.rules.specs.Figures.Punctuality.{never, always, share}
+use Rattle.rules.specs.Viewer.{View, viewed}
+use Rattle.rules.specs.Viewer.View.{field, ended, overruns}
 use Rattle.rules.specs.Calls.{Run, Memory, Lent, textBytes, textOf, call, singleRun, stoppedRun, wholeRun, trainRun, runCall, listingCall, figuresCall}
-use Rattle.rules.specs.Answers.{Answer, numberAnswer, minuteNumber, minuteAnswer, punctualityNumber, punctualityValue, FiguresAnswer, figuresAnswer}
+use Rattle.rules.specs.Answers.{Answer, numberAnswer, minuteNumber, minuteAnswer, punctualityNumber, punctualityValue, FiguresAnswer, figuresAnswer, ViewAnswer, viewAnswer}
 use Rattle.rules.specs.Promised.{refusalOf, lateStop, missingTrain}
 use Rattle.theory_sound.specs.Accepted.{accepted-sound}
 use Rattle.theory_sound.specs.Places.{files-told}
@@ -25,7 +27,8 @@ use Rattle.theory_calls.specs.Plan.{arrival-window}
 use Rattle.theory_calls.specs.Promises.{Comes, call-comes, Comes as comes}
 use Rattle.desk.specs.declared.Answer.{Answer as Struct}
 use Rattle.desk.specs.declared.TrainFigures.{TrainFigures}
-use Rattle.desk.specs.Answers.{answerOf, singleAnswer, figuresOf}
+use Rattle.desk.specs.declared.Viewed.{Viewed}
+use Rattle.desk.specs.Answers.{answerOf, singleAnswer, figuresOf, viewedOf}
 
 -- ---- the definitions
 
@@ -121,6 +124,23 @@ figures-one (answer f) (answer g) h k e =
     (shares-same (f .shares) (g .shares) (ap (λ (z : FiguresAnswer). z .onTime) e) (ap (λ (z : FiguresAnswer). z .late) e) (ap (λ (z : FiguresAnswer). z .notArrived) e))
     (ap (λ (z : FiguresAnswer). z .lateness) e) (ap (λ (z : FiguresAnswer). z .arrived) e))
 
+field-same : (a b c d e f : ℕ) → a ≡ b → c ≡ d → e ≡ f → field a c e ≡ field b d f
+field-same a b c d e f p q r =
+    ap (λ (z : ℕ). field z c e) p ∙ ap (λ (z : ℕ). field b z e) q ∙ ap (λ (z : ℕ). field b d z) r
+
+-- what the field viewer gives, wherever it stood
+pub view-one : (i j : ℕ) (v w : View) → viewAnswer i v ≡ viewAnswer j w → v ≡ w
+view-one i j (field a c e) (field b d f) h =
+    field-same a b c d e f (ap (λ (z : ViewAnswer). z .tag) h) (ap (λ (z : ViewAnswer). z .size) h) (ap (λ (z : ViewAnswer). z .next) h)
+view-one i j (field a c e) ended h = absurd (omega (arith, ap (λ (z : ViewAnswer). z .given) h))
+view-one i j (field a c e) overruns h = absurd (omega (arith, ap (λ (z : ViewAnswer). z .given) h))
+view-one i j ended (field b d f) h = absurd (omega (arith, ap (λ (z : ViewAnswer). z .given) h))
+view-one i j ended ended h = refl
+view-one i j ended overruns h = absurd (omega (arith, ap (λ (z : ViewAnswer). z .refusal) h))
+view-one i j overruns (field b d f) h = absurd (omega (arith, ap (λ (z : ViewAnswer). z .given) h))
+view-one i j overruns ended h = absurd (omega (arith, ap (λ (z : ViewAnswer). z .refusal) h))
+view-one i j overruns overruns h = refl
+
 -- ---- every call's result has one answer
 
 decided-numbered : (cs bk : List ℕ) (arguments stop : Case → ℕ) (r : Result Run) → Decided cs bk arguments stop r → (f : Refusal) → r ≡ refused f → 1 ≤ f .number
@@ -205,6 +225,9 @@ struct-figures z = record {
   arrived = z .arrived;
 }
 
+abbrev struct-view : Viewed → ViewAnswer
+struct-view z = record { refusal = z .refusal; given = z .given; tag = z .tag; size = z .size; next = z .next }
+
 -- two calls, whatever their files, arguments and memory, that answer the same struct have the same result
 pub single-told : (cs bk x ds ck y : List ℕ) (k j : ℕ) → singleAnswer (singleRun cs bk x k) ≡ singleAnswer (singleRun ds ck y j)
     → singleRun cs bk x k ≡ singleRun ds ck y j
@@ -226,3 +249,7 @@ pub figures-told : (cs bk ds ck : List ℕ) (k j L M : ℕ) (m n : Memory) → f
     → figuresCall cs bk k L m .result ≡ figuresCall ds ck j M n .result
 figures-told cs bk ds ck k j L M m n e =
     figures-one (figuresCall cs bk k L m .result) (figuresCall ds ck j M n .result) (figures-numbered cs bk k L m) (figures-numbered ds ck j M n) (ap struct-figures e)
+
+-- two viewings, whatever their files and places, that answer the same struct gave the same: the same field, or both the end, or both refusal 1
+pub field-told : (l m : List ℕ) (i j : ℕ) → viewedOf l i ≡ viewedOf m j → viewed l i ≡ viewed m j
+field-told l m i j e = view-one i j (viewed l i) (viewed m j) (ap struct-view e)

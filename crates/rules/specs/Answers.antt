@@ -1,4 +1,4 @@
--- What the calls answer, as numbers: 01's refusal, file and place, and what stands for a value, for no minute and for each case of punctuality.
+-- What the calls answer, as numbers: 01's refusal, file and place, and what stands for a value, for no minute, for each case of punctuality and for a field.
 -- Where 01 leaves a number open it is fixed here and in docs/FORMATS.md. Assumes nothing: these are definitions.
 use mathlib.Core.Bool.{false}
 use mathlib.Core.Option.{Option, none, some}
@@ -7,6 +7,8 @@ use lib.IntN.{pos}
 use lib.Ieee.{Float, fin}
 use Rattle.rules.specs.Refusals.{Refusal, Result}
 use Rattle.rules.specs.Refusals.Result.{refused, answer}
+use Rattle.rules.specs.Viewer.{View, refusalOf, nextPlace}
+use Rattle.rules.specs.Viewer.View.{field, ended, overruns}
 use Rattle.rules.specs.Figures.{Punctuality, Figures}
 use Rattle.rules.specs.Figures.Punctuality.{never, always, share}
 
@@ -98,3 +100,25 @@ figuresAnswer (answer f) = record {
   lateness = f .sum;
   arrived = f .weight;
 }
+
+-- ---- the field viewer
+
+-- the viewer's refusal, 0 if none; 1 if a field was given, else 0; the field's tag and its body's length, 0 if none was given; and the viewer's place then
+pub record ViewAnswer : Type 0 where
+  pub refusal : ℕ
+  pub given : ℕ
+  pub tag : ℕ
+  pub size : ℕ
+  pub next : ℕ
+
+-- the answer of a viewer that stood at i, by what it gives there
+abbrev pub viewAnswer : ℕ → View → ViewAnswer
+viewAnswer i (field tag size end) = record {
+  refusal = refusalOf (field tag size end);
+  given = 1;
+  tag = tag;
+  size = size;
+  next = nextPlace i (field tag size end);
+}
+viewAnswer i ended = record { refusal = refusalOf ended; given = 0; tag = 0; size = 0; next = nextPlace i ended }
+viewAnswer i overruns = record { refusal = refusalOf overruns; given = 0; tag = 0; size = 0; next = nextPlace i overruns }

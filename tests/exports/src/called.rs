@@ -1,15 +1,16 @@
 //! The exports as the tests call them: the linked ones, or spoiled ones in their place.
 
 use crate::memory::Lent;
-use exports::{Answer, TrainFigures};
+use exports::{Answer, TrainFigures, Viewed};
 use inputs::generator::Files;
 
-/// The four calls on watched memory.
+/// The four calls on watched memory, and the field viewer.
 pub trait Exports {
     fn single(&self, files: &Files, choice: &[u8], train: u64) -> Answer;
     fn run(&self, files: &Files, stop: u64, lent: &mut Lent) -> Answer;
     fn listing(&self, files: &Files, lent: &mut Lent) -> Answer;
     fn figures(&self, files: &Files, train: u64, limit: u16, lent: &mut Lent) -> TrainFigures;
+    fn field(&self, file: &[u8], place: u64) -> Viewed;
 }
 
 /// The exports of the static library.
@@ -33,6 +34,10 @@ impl Exports for Linked {
     fn figures(&self, files: &Files, train: u64, limit: u16, lent: &mut Lent) -> TrainFigures {
         let (rows, weights) = (lent.rows.lend(), lent.weights.lend());
         exports::figures(&files.case, &files.book, train, limit, rows, weights)
+    }
+
+    fn field(&self, file: &[u8], place: u64) -> Viewed {
+        exports::field(file, place)
     }
 }
 

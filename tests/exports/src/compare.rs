@@ -1,6 +1,7 @@
 //! Compares the exports with the second program: each answer, and every byte of lent memory.
 
 use crate::called::{bits, Exports};
+use crate::fields::differing_place;
 use crate::memory::Lent;
 use crate::tally::Tally;
 use exports::{Answer, TrainFigures, ALWAYS, NEVER, NONE, SHARE};
@@ -21,6 +22,12 @@ pub fn compare(exports: &dyn Exports, asked: &[Asked], tally: &mut Tally) {
             let pattern = [0xA5, 0x5A][number % 2];
             let agrees = agrees(exports, files, question, pattern);
             tally.expect(agrees, || differs(files, question));
+        }
+        for file in [&files.case, &files.book] {
+            let differing = differing_place(exports, file);
+            tally.expect(differing.is_none(), || {
+                format!("the field at {differing:?} differs in {file:?}")
+            });
         }
     }
 }

@@ -1,9 +1,9 @@
-//! The shift example through the exports: the marked points, its weights, its listing and its figures to the bit; and the layout of the answers.
+//! The shift example through the exports: the marked points, its weights, its listing, its figures to the bit and its fields; and the layout of the answers.
 
 use crate::called::{Exports, Linked};
 use crate::memory::Lent;
 use crate::tally::Tally;
-use exports::{Answer, TrainFigures, ALWAYS, NEVER, NONE, ROWS, SHARE, TEXT, WEIGHTS};
+use exports::{Answer, TrainFigures, Viewed, ALWAYS, NEVER, NONE, ROWS, SHARE, TEXT, WEIGHTS};
 use inputs::generator::Files;
 use inputs::questions::{Memory, MEMORIES, ROW_BYTES, WEIGHT_BYTES};
 use std::mem::size_of;
@@ -18,7 +18,14 @@ pub fn shift(change: impl FnOnce(&mut Vec<u8>)) -> Files {
 }
 
 pub fn the_example(tally: &mut Tally) {
-    let checks = [layouts(), single_runs(), runs(), listings(), figures()];
+    let checks = [
+        layouts(),
+        single_runs(),
+        runs(),
+        listings(),
+        figures(),
+        fields(),
+    ];
     for (what, holds) in checks.concat() {
         tally.expect(holds, || format!("failed: {what}"));
     }
@@ -41,6 +48,7 @@ fn layouts() -> Checks {
     let answer = offsets!(Answer::default(), refusal file place value);
     let first = offsets!(TrainFigures::default(), refusal file place punctuality zero share);
     let last = offsets!(TrainFigures::default(), on_time late not_arrived lateness arrived kept);
+    let viewed = offsets!(Viewed::default(), refusal given tag size next);
     let required = MEMORIES.map(Memory::required);
     vec![
         ("an answer has 16 bytes", size_of::<Answer>() == 16),
@@ -48,6 +56,8 @@ fn layouts() -> Checks {
         ("figures have 96 bytes", size_of::<TrainFigures>() == 96),
         ("the figures' first fields", first == [0, 2, 4, 8, 12, 16]),
         ("the figures' last fields", last == [24, 32, 40, 48, 56, 64]),
+        ("what is viewed has 16 bytes", size_of::<Viewed>() == 16),
+        ("what is viewed", viewed == [0, 2, 4, 6, 8]),
         ("the required lengths", required == [ROWS, WEIGHTS, TEXT]),
     ]
 }
@@ -179,6 +189,48 @@ fn figures() -> Checks {
         (
             "0.36 by its bits",
             bits([0.36; 4]) == [0x3FD7_0A3D_70A3_D70A; 4],
+        ),
+    ]
+}
+
+/// The fields of a file from its start on, as tag, length and place of the next, and what the viewer gives where it stays.
+fn walk(file: &[u8]) -> (Vec<(u16, u16, u64)>, Viewed) {
+    let (mut given, mut place) = (Vec::new(), 0);
+    loop {
+        let viewed = Linked.field(file, place);
+        if viewed.given == 0 {
+            return (given, viewed);
+        }
+        given.push((viewed.tag, viewed.size, viewed.next));
+        place = viewed.next;
+    }
+}
+
+fn fields() -> Checks {
+    let whole = shift(|_| {}).case;
+    let stays = |refusal, next| Viewed {
+        refusal,
+        next,
+        ..Viewed::default()
+    };
+    let walked = vec![
+        (1, 5, 8),
+        (2, 1, 12),
+        (2, 1, 16),
+        (3, 3, 22),
+        (4, 12, 37),
+        (4, 12, 52),
+        (5, 5, 60),
+    ];
+    let cut = walk(&whole[..59]);
+    vec![
+        ("the fields", walk(&whole) == (walked.clone(), stays(0, 60))),
+        ("a body cut", cut == (walked[..6].to_vec(), stays(1, 52))),
+        ("a header cut", Linked.field(&[5, 0], 0) == stays(1, 0)),
+        ("no field of no bytes", walk(&[]) == (vec![], stays(0, 0))),
+        (
+            "no field past the end",
+            Linked.field(&whole, u64::MAX) == stays(0, u64::MAX),
         ),
     ]
 }

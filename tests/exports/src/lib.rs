@@ -41,9 +41,20 @@ pub struct TrainFigures {
     pub kept: [u64; 4],
 }
 
+/// What the field viewer gives at a place.
+#[repr(C)]
+#[derive(Clone, Copy, Debug, Default, PartialEq, Eq)]
+pub struct Viewed {
+    pub refusal: u16,
+    pub given: u16,
+    pub tag: u16,
+    pub size: u16,
+    pub next: u64,
+}
+
 /// Each slice is handed over as its start and its length.
 mod linked {
-    use super::{Answer, TrainFigures};
+    use super::{Answer, TrainFigures, Viewed};
 
     extern "C" {
         pub fn lampreysong_single(
@@ -93,6 +104,8 @@ mod linked {
             weights: *mut u8,
             weights_length: usize,
         ) -> TrainFigures;
+
+        pub fn lampreysong_field(file: *const u8, length: usize, place: u64) -> Viewed;
     }
 }
 
@@ -179,4 +192,10 @@ pub fn figures(
             weights.len(),
         )
     }
+}
+
+/// What the field viewer gives at a place of a file, and its place then.
+pub fn field(file: &[u8], place: u64) -> Viewed {
+    // SAFETY: the pointer comes with the length of its own slice, which outlives the call.
+    unsafe { linked::lampreysong_field(file.as_ptr(), file.len(), place) }
 }

@@ -7,6 +7,7 @@
 mod called;
 mod compare;
 mod example;
+mod fields;
 mod lengths;
 mod memory;
 mod refusals;
@@ -15,6 +16,7 @@ mod tally;
 
 use called::Linked;
 use compare::{agrees, compare};
+use fields::differing_place;
 use inputs::drawn::COUNTED_SEEDS;
 use inputs::questions::{fixed, of_seed, Asked, Question};
 use inputs::vectors::{asked, reading, vector};
@@ -108,9 +110,11 @@ fn spoiled_exports() -> ExitCode {
     });
     let inputs: Vec<Asked> = (1..=COUNTED_SEEDS).flat_map(of_seed).collect();
     for way in WAYS {
-        let caught = |asked: &Asked| {
-            let mut questions = asked.questions.iter();
-            questions.any(|question| !agrees(&Spoiled(way), &asked.files, question, 0xA5))
+        let spoiled = Spoiled(way);
+        let caught = |Asked { files, questions }: &Asked| {
+            let mut questions = questions.iter();
+            questions.any(|question| !agrees(&spoiled, files, question, 0xA5))
+                || differing_place(&spoiled, &files.case).is_some()
         };
         tally.expect(inputs.iter().any(caught), || format!("not caught: {way}"));
     }

@@ -2,12 +2,12 @@
 
 use crate::called::{Exports, Linked};
 use crate::memory::{Lent, Watched};
-use exports::{Answer, TrainFigures, ROWS, WEIGHTS};
+use exports::{Answer, TrainFigures, Viewed, ROWS, WEIGHTS};
 use inputs::generator::Files;
 use second::refusal::{MEMORY, ROOM, STOP};
 
 /// The ways in which exports are spoiled.
-pub const WAYS: [&str; 24] = [
+pub const WAYS: [&str; 29] = [
     "single: the choice's length cut to a byte",
     "single: the train cut to two bytes",
     "single: another place",
@@ -32,6 +32,11 @@ pub const WAYS: [&str; 24] = [
     "figures: a number left when refused",
     "figures: a row",
     "figures: memory that is too short is touched",
+    "field: the place cut to two bytes",
+    "field: the place cut to four bytes",
+    "field: its length cut to a byte",
+    "field: not passed",
+    "field: a tag left when refused",
 ];
 
 /// The linked exports, spoiled in one of the ways.
@@ -145,6 +150,21 @@ impl Exports for Spoiled {
             3,
         );
         figures
+    }
+
+    fn field(&self, file: &[u8], place: u64) -> Viewed {
+        let at = self.cut("field: the place cut to two bytes", place, 0xFFFF);
+        let at = self.cut("field: the place cut to four bytes", at, 0xFFFF_FFFF);
+        let mut viewed = Linked.field(file, at);
+        let size = self.cut("field: its length cut to a byte", viewed.size.into(), 0xFF);
+        viewed.size = size as u16;
+        if viewed.given == 1 && self.is("field: not passed") {
+            viewed.next = place;
+        }
+        if viewed.refusal != 0 && self.is("field: a tag left when refused") {
+            viewed.tag = 1;
+        }
+        viewed
     }
 }
 
