@@ -4,7 +4,6 @@
 #include <string.h>
 
 #include "lampreysong.h"
-#include "viewed.h"
 
 enum { HEADER = 3, STOP = 5, PAIR = 2 }; /* bytes of a field's header, of a stop and of a pair */
 
