@@ -1,2 +1,81 @@
+/* `check`: whether a case is sound and its room suffices, and what it holds. */
+#include <inttypes.h>
+#include <stdio.h>
+
+#include "answers.h"
+#include "input.h"
+#include "refusal.h"
 #include "request.h"
-int command_check(const struct request *request) { (void)request; return 2; }
+#include "said.h"
+#include "study.h"
+
+static struct study study;
+static struct lent lent;
+
+static void print_count(unsigned count, const char *one, const char *more)
+{
+    printf("%u %s", count, count == 1 ? one : more);
+}
+
+/* How many choices of one delay a train there are: at most 8 to the power of 7. */
+static uint32_t combinations(void)
+{
+    uint32_t product = 1;
+    for (unsigned i = 0; i < study.level.trains; i++)
+        product *= table_of(&study.level, &study.book, study.level.train[i].type)->pairs;
+    return product;
+}
+
+static void print_sound(unsigned rows)
+{
+    const struct level *level = &study.level;
+    uint32_t choices = combinations();
+    if (level->title[0] != '\0')
+        printf("%s\n", level->title);
+    fputs("sound: ", stdout);
+    print_count(level->stations, "station", "stations");
+    fputs(", ", stdout);
+    print_count(level->tracks, "track", "tracks");
+    fputs(", ", stdout);
+    print_count(level->trains, "train", "trains");
+    printf("; window 0 to %u; %" PRIu32 " combination%s of delays; %u of %u rows in use after the last minute\n", level->head.last, choices, choices == 1 ? "" : "s", rows,
+           level->head.room);
+}
+
+static int is_of_case(const struct table *table)
+{
+    for (unsigned i = 0; i < study.level.tables.count; i++)
+        if (table == &study.level.tables.table[i])
+            return 1;
+    return 0;
+}
+
+/* A train's path with its times, its delays and its priority. */
+static void print_train(const struct train *train)
+{
+    const struct table *table = table_of(&study.level, &study.book, train->type);
+    printf("\n%s, priority %u\n    path    ", train->name, train->priority);
+    for (unsigned i = 0; i < train->stops; i++)
+        printf("%s%s %u-%u", i > 0 ? ", " : "", study.level.station[train->stop[i].station].name, train->stop[i].arrival, train->stop[i].departure);
+    printf("\n    delays  %s%s:", table->name, is_of_case(table) ? "" : " of the book");
+    for (unsigned i = 0; i < table->pairs; i++)
+        printf("%s +%u %u%%", i > 0 ? "," : "", table->pair[i].delay, table->pair[i].weight);
+    fputc('\n', stdout);
+}
+
+int command_check(const struct request *request)
+{
+    struct lampreysong_answer a;
+    int status = judge_study(request, &study);
+    if (status != ANSWERED)
+        return status;
+    a = ask_run(&study, study.level.head.last, &lent);
+    if (a.refusal != 0) {
+        say_refusal(stderr, &study, (struct refusal){a.refusal, a.file, a.place});
+        return REFUSED;
+    }
+    print_sound((unsigned)a.value);
+    for (unsigned i = 0; i < study.level.trains; i++)
+        print_train(&study.level.train[i]);
+    return end_output(stdout, NULL);
+}

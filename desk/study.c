@@ -43,6 +43,7 @@ static int too_long(const char *name)
 
 static int compare_book(const struct study *study)
 {
+    static const struct tables no_book;
     static struct tables seen, again;
     static struct bytes bytes;
     struct text_error error = {0, 0, "it can't be shown"};
@@ -50,7 +51,7 @@ static int compare_book(const struct study *study)
     for (unsigned i = 0; i < seen.count; i++)
         memcpy(seen.table[i].name, study->book.table[i].name, sizeof(name_text));
     show_book(&seen, &shown);
-    if (!shown_again(&input.text, &shown, &error) || !compile_book(&shown, &again, &error))
+    if (!shown_again(&input.text, &shown, &no_book, &error) || !compile_book(&shown, &again, &error))
         return differs(study->book_name, &error);
     put_book(&again, &bytes);
     return same_bytes(&bytes, &study->book_bytes) ? ANSWERED : differs(study->book_name, &error);
@@ -100,7 +101,7 @@ static int compare_case(const struct study *study)
     take_case(&study->case_bytes, &seen);
     take_names(&seen, &study->level);
     show_case(&seen, &study->book, &shown);
-    if (!shown_again(&input.text, &shown, &error) || !compile_case(&shown, &study->book, &again, &error))
+    if (!shown_again(&input.text, &shown, &study->book, &error) || !compile_case(&shown, &study->book, &again, &error))
         return differs(study->case_name, &error);
     put_case(&again, &bytes);
     return same_bytes(&bytes, &study->case_bytes) ? ANSWERED : differs(study->case_name, &error);
@@ -174,18 +175,48 @@ static int read_names(const char *names, struct study *study)
     return ANSWERED;
 }
 
-int judge_study(const struct request *request, struct study *study)
+/* Reads and judges; the refusal `passed_over`, if it is given, counts as none. */
+static int judge_but(unsigned passed_over, const struct request *request, struct study *study)
 {
     struct lampreysong_answer a;
     int status = read_study(request, study);
     if (status != ANSWERED)
         return status;
     a = ask_files(study);
-    if (a.refusal != 0)
+    if (a.refusal != 0 && a.refusal != passed_over)
         return say_refused(study, a);
     if (!study->case_is_text)
         take_case(&study->case_bytes, &study->level);
     return request->names == NULL ? ANSWERED : read_names(request->names, study);
+}
+
+int judge_study(const struct request *request, struct study *study)
+{
+    return judge_but(0, request, study);
+}
+
+int judge_fields(const struct request *request, struct study *study)
+{
+    return judge_but(LAMPREYSONG_NO_TABLE, request, study);
+}
+
+int read_book_alone(const struct request *request, struct study *study)
+{
+    memset(study, 0, sizeof *study);
+    study->case_name = study->book_name = request->case_name;
+    if (request->book_name != NULL || request->names != NULL)
+        return misused("%s is to be read as a book: it takes no --book and no --names", request->case_name);
+    return read_book(study);
+}
+
+int judge_book_alone(const struct request *request, struct study *study)
+{
+    struct lampreysong_answer a;
+    int status = read_book_alone(request, study);
+    if (status != ANSWERED)
+        return status;
+    a = ask_book(study);
+    return a.refusal == 0 ? ANSWERED : say_refused(study, a);
 }
 
 int find_train(const struct study *study, const char *asked, unsigned *train)

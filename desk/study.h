@@ -22,6 +22,13 @@ int read_study(const struct request *request, struct study *study);
 /* Reads and judges: REFUSED, and said in words, if the reader refuses the files. The levels are then whole and every name is there. */
 int judge_study(const struct request *request, struct study *study);
 
+/* As judge_study, but a train's type needs no table: refusal 11 counts as none. */
+int judge_fields(const struct request *request, struct study *study);
+
+/* The same for a file that is a book, with no case: `case_name` of the request is its name. */
+int read_book_alone(const struct request *request, struct study *study);
+int judge_book_alone(const struct request *request, struct study *study);
+
 /* The number of the train that is asked for by its name or number; false, and said, if it is neither. A number may be that of no train: the calls refuse it. */
 int find_train(const struct study *study, const char *asked, unsigned *train);
 
