@@ -1,0 +1,840 @@
+/* Texts of cases and books: drawn levels shown and compiled again, drawn and damaged texts, errors word for word, and the check by showing again, which must see every
+ * word that is changed. Given a file of pairs of case and book (docs/FORMATS.md, "What the tools read"), it shows and compiles each accepted one. */
+#include <stdint.h>
+#include <stdio.h>
+#include <string.h>
+
+#include "../../desk/answers.h"
+#include "../../desk/bytes.h"
+#include "../../desk/text.h"
+#include "texts_wrong.h"
+
+enum { LEVELS = 6000, DAMAGED = 12000, MOST_WORDS = 400 };
+
+static unsigned passed, failed;
+static const struct tables no_book;
+
+static void expect(int holds, const char *what, unsigned nth)
+{
+    if (holds)
+        passed++;
+    else {
+        failed++;
+        printf("failed: %s, number %u\n", what, nth);
+    }
+}
+
+/* ---- drawing */
+
+static uint64_t drawn = 88172645463325252u;
+
+static unsigned draw(unsigned below)
+{
+    drawn ^= drawn << 13;
+    drawn ^= drawn >> 7;
+    drawn ^= drawn << 17;
+    return (unsigned)(drawn >> 20) % below;
+}
+
+static int in_ten(unsigned times)
+{
+    return draw(10) < times;
+}
+
+static const char *one_of(const char *const *words, unsigned count)
+{
+    return words[draw(count)];
+}
+
+#define ONE_OF(words) one_of(words, sizeof(words) / sizeof *(words))
+
+static const char *const starts[] = {"Face", "Tip", "Shaft", "Ore-", "Men", "S", "a", "Förder", "Шахта", "矿", "Lower Tip ", "#", "2-3", "+3", "60%", "", " ", "train", "holds", "é"};
+static const char *const ends[] = {"", "1", "-2", " east", "x", "ü", "станция", "#4", "train", "_very_long_name_that_fills_it_all_up"};
+
+/* A name of any kind, at most as long as a name may be, and cut only between characters. */
+static void draw_name(char *name)
+{
+    char whole[200];
+    size_t length;
+    do {
+        snprintf(whole, sizeof whole, "%s%s", ONE_OF(starts), ONE_OF(ends));
+        for (length = strlen(whole); length > NAME_BYTES || ((unsigned char)whole[length] & 0xC0) == 0x80;)
+            length--;
+        memcpy(name, whole, length);
+        name[length] = '\0';
+        if (in_ten(3) && length + 4 <= NAME_BYTES)
+            snprintf(name + length, 5, "%u", draw(1000));
+    } while (name[0] == '\0');
+}
+
+/* A name that none of the others, which stand `apart` bytes from each other, has. */
+static void draw_other_name(const char *first, size_t apart, unsigned count, char *name)
+{
+    unsigned i;
+    do {
+        draw_name(name);
+        for (i = 0; i < count && strcmp(first + i * apart, name) != 0; i++)
+            ;
+    } while (i < count);
+}
+
+static unsigned draw_number(unsigned sound, unsigned most)
+{
+    return in_ten(8) ? draw(sound) : in_ten(5) ? most - draw(3) : draw(most + 1);
+}
+
+static void draw_table(struct tables *tables, const struct tables *book)
+{
+    struct table *table = &tables->table[tables->count];
+    unsigned same;
+    table->type = in_ten(6) ? (tables->count > 0 ? (table[-1].type + 1) % 256 : 1) : draw_number(10, 255);
+    do {
+        draw_other_name(tables->table[0].name, sizeof *table, tables->count, table->name);
+        for (same = 0; same < book->count && strcmp(book->table[same].name, table->name) != 0; same++)
+            ;
+    } while (same < book->count && book->table[same].type != table->type);
+    table->pairs = in_ten(1) ? 8 : draw(9);
+    for (unsigned i = 0; i < table->pairs; i++) {
+        table->pair[i].delay = draw_number(20, 255);
+        table->pair[i].weight = draw_number(101, 255);
+    }
+    tables->count++;
+}
+
+static void draw_tables(struct tables *tables, const struct tables *book)
+{
+    unsigned count = in_ten(2) ? MOST_TABLES : draw(5);
+    memset(tables, 0, sizeof *tables);
+    while (tables->count < count)
+        draw_table(tables, book);
+}
+
+static int is_called_as_another(const struct level *level, const struct track *track, int by_ends)
+{
+    for (const struct track *other = level->track; other < track; other++)
+        if (strcmp(other->name, track->name) == 0 && !(by_ends && other->from == track->from && other->to == track->to))
+            return 1;
+    return 0;
+}
+
+static void draw_track(struct level *level)
+{
+    struct track *track = &level->track[level->tracks];
+    int by_ends = in_ten(6);
+    track->from = draw(level->stations);
+    track->to = draw(level->stations);
+    track->capacity = draw_number(4, 255);
+    name_by_ends(level, track);
+    while (!by_ends || is_called_as_another(level, track, by_ends)) {
+        draw_other_name(level->track[0].name, sizeof *track, level->tracks, track->name);
+        by_ends = 1;
+    }
+    level->tracks++;
+}
+
+static void draw_train(struct level *level)
+{
+    struct train *train = &level->train[level->trains];
+    draw_other_name(level->train[0].name, sizeof *train, level->trains, train->name);
+    train->priority = draw_number(4, 255);
+    train->type = draw_number(8, 255);
+    train->stops = level->stations == 0 ? 0 : in_ten(2) ? MOST_STOPS : draw(MOST_STOPS + 1);
+    for (unsigned i = 0; i < train->stops; i++) {
+        train->stop[i].station = draw(level->stations);
+        train->stop[i].arrival = draw_number(720, 65535);
+        train->stop[i].departure = draw_number(720, 65535);
+    }
+    level->trains++;
+}
+
+static void draw_level(struct level *level, const struct tables *book)
+{
+    unsigned stations = in_ten(2) ? MOST_STATIONS : draw(8), tracks = in_ten(2) ? MOST_TRACKS : draw(8), trains = in_ten(2) ? MOST_TRAINS : draw(5);
+    memset(level, 0, sizeof *level);
+    if (in_ten(7))
+        snprintf(level->title, sizeof level->title, "%s %u%s", in_ten(5) ? "Level \"3\", 早班" : "train", draw(100), in_ten(5) ? "" : " a \"b");
+    level->head = (struct head){draw_number(720, 65535), draw_number(31, 255), in_ten(5) ? 1024 : draw_number(1025, 65535), 0};
+    for (; level->stations < stations; level->stations++) {
+        struct station *station = &level->station[level->stations];
+        draw_other_name(level->station[0].name, sizeof *station, level->stations, station->name);
+        station->capacity = draw_number(4, 255);
+    }
+    while (level->stations > 0 && level->tracks < tracks)
+        draw_track(level);
+    while (level->trains < trains)
+        draw_train(level);
+    draw_tables(&level->tables, book);
+}
+
+/* ---- a level written freely: statements and parts in any order, with all that may be left out and put in */
+
+static void add(struct text *text, const char *words)
+{
+    size_t length = strlen(words);
+    if (text->length + length <= MOST_TEXT) {
+        memcpy(text->at + text->length, words, length);
+        text->length += length;
+    }
+}
+
+static void add_number(struct text *text, const char *before, unsigned number, const char *after)
+{
+    char written[32];
+    snprintf(written, sizeof written, "%s%u%s", before, number, after);
+    add(text, written);
+}
+
+static void add_space(struct text *text)
+{
+    static const char *const spaces[] = {" ", "  ", "\t", " \t "};
+    add(text, ONE_OF(spaces));
+}
+
+static void add_line_end(struct text *text)
+{
+    static const char *const line_ends[] = {"\n", "\n", "\r\n", "\n\n", " # train \"x\n", "#\xE4\n", "\r", "\n  # window 3\r\n\n"};
+    add(text, ONE_OF(line_ends));
+}
+
+/* Whether a name is one without quotes; said here without the compiler's code. */
+static int is_plain(const char *name)
+{
+    static const char *const kept[] = {"title", "window", "safety", "room", "station", "track", "delays", "train", "holds", "from", "to", "type", "priority"};
+    int letter = 0;
+    for (size_t i = 0; i < sizeof kept / sizeof *kept; i++)
+        if (strcmp(kept[i], name) == 0)
+            return 0;
+    for (const char *at = name; *at != '\0'; at++)
+        letter |= (*at >= 'a' && *at <= 'z') || (*at >= 'A' && *at <= 'Z') || (*at & 0x80) != 0;
+    return letter && strpbrk(name, " #") == NULL;
+}
+
+static void add_name(struct text *text, const char *name)
+{
+    int quoted = !is_plain(name) || in_ten(2);
+    add(text, quoted ? "\"" : "");
+    add(text, name);
+    add(text, quoted ? "\"" : "");
+}
+
+static void add_part(struct text *text, const char *keyword, const char *name, unsigned number)
+{
+    add_space(text);
+    add(text, keyword);
+    add_space(text);
+    if (name != NULL)
+        add_name(text, name);
+    else
+        add_number(text, "", number, "");
+}
+
+static void write_head(struct text *text, const struct level *level, unsigned nth)
+{
+    if (nth == 0)
+        add_part(text, "window", NULL, level->head.last);
+    else if (nth == 1)
+        add_part(text, "safety", NULL, level->head.safety);
+    else if (nth == 2 && (level->head.room != MOST_ROOM || in_ten(3)))
+        add_part(text, "room", NULL, level->head.room);
+    else if (nth == 3 && level->title[0] != '\0') {
+        add(text, " title\t");
+        add(text, level->title);
+    }
+}
+
+static void write_station(struct text *text, const struct level *level, unsigned nth)
+{
+    add_part(text, "station", level->station[nth].name, 0);
+    add_part(text, "holds", NULL, level->station[nth].capacity);
+}
+
+/* A track's name may be written though it is that of its ends, if it was not cut. */
+static void write_track(struct text *text, const struct level *level, unsigned nth)
+{
+    const struct track *track = &level->track[nth];
+    struct track by_ends = *track;
+    unsigned turn = draw(3);
+    name_by_ends(level, &by_ends);
+    add(text, "track");
+    if (strcmp(by_ends.name, track->name) != 0 || (strlen(track->name) < NAME_BYTES && in_ten(1) && !is_called_as_another(level, track, 0)))
+        add_part(text, "", track->name, 0);
+    for (unsigned i = 0; i < 3; i++) {
+        unsigned part = (i + turn) % 3;
+        if (part < 2)
+            add_part(text, part == 0 ? "from" : "to", level->station[part == 0 ? track->from : track->to].name, 0);
+        else
+            add_part(text, "holds", NULL, track->capacity);
+    }
+}
+
+static void write_table(struct text *text, const struct tables *tables, unsigned nth)
+{
+    const struct table *table = &tables->table[nth];
+    int type_follows = nth == 0 ? table->type == 1 : table->type == table[-1].type + 1, type_written = type_follows && in_ten(5);
+    add_part(text, "delays", table->name, 0);
+    for (unsigned i = 0; i <= table->pairs; i++) {
+        if (!type_written && (i == table->pairs || in_ten(3))) {
+            add_part(text, "type", NULL, table->type);
+            type_written = 1;
+        }
+        if (i < table->pairs) {
+            add_number(text, " +", table->pair[i].delay, "\t");
+            add_number(text, "", table->pair[i].weight, "%");
+        }
+    }
+}
+
+static const struct table *named_by(const struct level *level, const struct tables *book, unsigned type)
+{
+    const struct table *table = table_of(level, book, type);
+    return table != NULL && in_ten(7) ? table : NULL;
+}
+
+static void write_train(struct text *text, const struct level *level, const struct tables *book, unsigned nth)
+{
+    const struct train *train = &level->train[nth];
+    const struct table *table = named_by(level, book, train->type);
+    int priority_first = in_ten(5);
+    add_part(text, "train", train->name, 0);
+    if (priority_first)
+        add_part(text, "priority", NULL, train->priority);
+    add_part(text, table != NULL ? "delays" : "type", table != NULL ? table->name : NULL, train->type);
+    if (!priority_first)
+        add_part(text, "priority", NULL, train->priority);
+    for (unsigned i = 0; i < train->stops; i++) {
+        if (in_ten(8))
+            add_line_end(text);
+        add_part(text, "", level->station[train->stop[i].station].name, 0);
+        add_number(text, " ", train->stop[i].arrival, "-");
+        add_number(text, "", train->stop[i].departure, "");
+    }
+}
+
+static void write_nth(struct text *text, const struct level *level, const struct tables *book, unsigned kind, unsigned nth)
+{
+    switch (kind) {
+    case 0:
+        write_head(text, level, nth);
+        break;
+    case 1:
+        write_station(text, level, nth);
+        break;
+    case 2:
+        write_track(text, level, nth);
+        break;
+    case 3:
+        write_table(text, &level->tables, nth);
+        break;
+    default:
+        write_train(text, level, book, nth);
+    }
+    add_line_end(text);
+}
+
+static void write_freely(const struct level *level, const struct tables *book, struct text *text)
+{
+    const unsigned counts[] = {4, level->stations, level->tracks, level->tables.count, level->trains};
+    unsigned written[5] = {0}, left = 4 + level->stations + level->tracks + level->tables.count + level->trains;
+    text->length = 0;
+    if (in_ten(3))
+        add(text, "\xEF\xBB\xBF");
+    for (; left > 0; left--) {
+        unsigned kind = draw(5);
+        while (written[kind] == counts[kind])
+            kind = (kind + 1) % 5;
+        write_nth(text, level, book, kind, written[kind]++);
+    }
+}
+
+/* ---- levels compared */
+
+static int same_tables(const struct tables *a, const struct tables *b)
+{
+    for (unsigned i = 0; i < a->count && i < b->count; i++)
+        if (strcmp(a->table[i].name, b->table[i].name) != 0)
+            return 0;
+    return a->count == b->count;
+}
+
+static int same_names(const struct level *a, const struct level *b)
+{
+    if (strcmp(a->title, b->title) != 0 || a->stations != b->stations || a->tracks != b->tracks || a->trains != b->trains)
+        return 0;
+    for (unsigned i = 0; i < a->stations; i++)
+        if (strcmp(a->station[i].name, b->station[i].name) != 0)
+            return 0;
+    for (unsigned i = 0; i < a->tracks; i++)
+        if (strcmp(a->track[i].name, b->track[i].name) != 0)
+            return 0;
+    for (unsigned i = 0; i < a->trains; i++)
+        if (strcmp(a->train[i].name, b->train[i].name) != 0)
+            return 0;
+    return same_tables(&a->tables, &b->tables);
+}
+
+static void take_names(struct level *level, const struct level *named)
+{
+    memcpy(level->title, named->title, sizeof level->title);
+    for (unsigned i = 0; i < level->stations; i++)
+        memcpy(level->station[i].name, named->station[i].name, sizeof(name_text));
+    for (unsigned i = 0; i < level->tracks; i++)
+        memcpy(level->track[i].name, named->track[i].name, sizeof(name_text));
+    for (unsigned i = 0; i < level->trains; i++)
+        memcpy(level->train[i].name, named->train[i].name, sizeof(name_text));
+    for (unsigned i = 0; i < level->tables.count; i++)
+        memcpy(level->tables.table[i].name, named->tables.table[i].name, sizeof(name_text));
+}
+
+static int same_text(const struct text *a, const struct text *b)
+{
+    return a->length == b->length && memcmp(a->at, b->at, a->length) == 0;
+}
+
+static struct text shown, shown_twice, damaged, example;
+static struct level again, seen;
+static struct bytes bytes, bytes_again;
+static struct text_error error;
+
+/* Whether a text is compiled to this very level. */
+static int leads_to(const struct text *text, const struct tables *book, const struct level *level)
+{
+    put_case(level, &bytes);
+    if (!compile_case(text, book, &again, &error)) {
+        printf("line %u, column %u: %s\n", error.line, error.column, error.words);
+        return 0;
+    }
+    put_case(&again, &bytes_again);
+    return same_bytes(&bytes, &bytes_again) && same_names(level, &again);
+}
+
+/* Whether a level's bytes, taken apart and named, are shown as the level is. */
+static int is_shown_the_same(const struct level *level, const struct tables *book)
+{
+    put_case(level, &bytes);
+    take_case(&bytes, &seen);
+    take_names(&seen, level);
+    show_case(&seen, book, &shown_twice);
+    return same_text(&shown, &shown_twice);
+}
+
+/* The first byte of a line; the text's length if there is none such. */
+static size_t line_at(const struct text *text, unsigned line)
+{
+    size_t i = 0;
+    for (; line > 1 && i < text->length; i++)
+        line -= text->at[i] == '\n' || (text->at[i] == '\r' && !(i + 1 < text->length && text->at[i + 1] == '\n'));
+    return line > 1 ? text->length : i;
+}
+
+static int has_on_line(const struct text *text, unsigned line, const char *word)
+{
+    char whole[600];
+    size_t at = line_at(text, line), past = line_at(text, line + 1), length = past - at < sizeof whole - 1 ? past - at : sizeof whole - 1;
+    memcpy(whole, text->at + at, length);
+    whole[length] = '\0';
+    return line > 0 && strstr(whole, word) != NULL;
+}
+
+/* Whether each element of `again` has the line of the text that says it. */
+static int has_lines(const struct text *text)
+{
+    int holds = has_on_line(text, again.head.line, "window");
+    for (unsigned i = 0; i < again.stations; i++)
+        holds &= has_on_line(text, again.station[i].line, "station") && has_on_line(text, again.station[i].line, again.station[i].name);
+    for (unsigned i = 0; i < again.tracks; i++)
+        holds &= has_on_line(text, again.track[i].line, "track") && has_on_line(text, again.track[i].line, again.station[again.track[i].from].name);
+    for (unsigned i = 0; i < again.tables.count; i++)
+        holds &= has_on_line(text, again.tables.table[i].line, "delays") && has_on_line(text, again.tables.table[i].line, again.tables.table[i].name);
+    for (unsigned i = 0; i < again.trains; i++) {
+        const struct train *train = &again.train[i];
+        holds &= has_on_line(text, train->line, "train") && has_on_line(text, train->line, train->name);
+        for (unsigned k = 0; k < train->stops; k++)
+            holds &= has_on_line(text, train->stop[k].line, again.station[train->stop[k].station].name);
+    }
+    return holds;
+}
+
+static int leads_to_book(const struct text *text, const struct tables *book)
+{
+    static struct tables compiled;
+    put_book(book, &bytes);
+    if (!compile_book(text, &compiled, &error))
+        return 0;
+    put_book(&compiled, &bytes_again);
+    return same_bytes(&bytes, &bytes_again) && same_tables(book, &compiled);
+}
+
+static void drawn_books(const struct tables *book, unsigned nth)
+{
+    show_book(book, &shown);
+    damaged.length = 0;
+    for (unsigned i = 0; i < book->count; i++) {
+        write_table(&damaged, book, i);
+        add_line_end(&damaged);
+    }
+    expect(leads_to_book(&shown, book), "a shown book leads back to its bytes and names", nth);
+    expect(leads_to_book(&damaged, book), "a book written freely leads to its bytes and names", nth);
+    expect(shown_again(&damaged, &shown, &no_book, &error), "a book written freely is shown again", nth);
+}
+
+/* ---- damaged texts */
+
+static void cut_out(struct text *text, size_t from, size_t past)
+{
+    memmove(text->at + from, text->at + past, text->length - past);
+    text->length -= past - from;
+}
+
+static void put_in(struct text *text, size_t at, const char *words, size_t length)
+{
+    if (text->length + length > MOST_TEXT)
+        return;
+    memmove(text->at + at + length, text->at + at, text->length - at);
+    memcpy(text->at + at, words, length);
+    text->length += length;
+}
+
+static int is_space(char byte)
+{
+    return byte == ' ' || byte == '\t' || byte == '\n' || byte == '\r';
+}
+
+/* The place of a drawn word, and of its end. */
+static size_t draw_word(const struct text *text, size_t *past)
+{
+    size_t from = text->length > 0 ? draw((unsigned)text->length) : 0;
+    while (from < text->length && is_space(text->at[from]))
+        from++;
+    while (from > 0 && !is_space(text->at[from - 1]))
+        from--;
+    for (*past = from; *past < text->length && !is_space(text->at[*past]);)
+        ++*past;
+    return from;
+}
+
+/* Takes a line of a text, with its end. */
+static size_t draw_line(const struct text *text, char *line, size_t most, size_t *at)
+{
+    size_t from = text->length > 0 ? draw((unsigned)text->length) : 0, past, length;
+    while (from > 0 && text->at[from - 1] != '\n')
+        from--;
+    for (past = from; past < text->length && text->at[past++] != '\n';)
+        ;
+    length = past - from < most ? past - from : most;
+    memcpy(line, text->at + from, length);
+    *at = from;
+    return length;
+}
+
+static void damage_line(struct text *text, unsigned how)
+{
+    char line[300];
+    size_t at, length = draw_line(text, line, sizeof line, &at);
+    if (how != 0)
+        cut_out(text, at, at + length);
+    if (how != 1)
+        put_in(text, how == 0 ? at : draw((unsigned)text->length + 1), line, length);
+}
+
+static void damage_word(struct text *text)
+{
+    static const char *const words[] = {"train",  "holds", "2-3", "3-2-1", "+3",   "40%", "256", "65536", "01", "\"", "\"Lower Tip\"", "Face", "Tip", "type", "99999999999999",
+                                        "from",   "Tpi",   "#",   "",      "delay", "-",  "%",   "+",     "0",  "7",  "\"\"",          "\xC3", "title", "delays", "\xC2\xA0"};
+    char copied[80];
+    size_t past, from = draw_word(text, &past), length;
+    const char *word = ONE_OF(words);
+    if (in_ten(5)) {
+        size_t end, begin = draw_word(text, &end);
+        length = end - begin < sizeof copied - 1 ? end - begin : sizeof copied - 1;
+        memcpy(copied, text->at + begin, length);
+        copied[length] = '\0';
+        word = copied;
+    }
+    cut_out(text, from, past);
+    put_in(text, from, word, strlen(word));
+}
+
+static void damage_bytes(struct text *text, unsigned how)
+{
+    static char long_word[5000];
+    size_t at = text->length > 0 ? draw((unsigned)text->length) : 0;
+    char byte = (char)draw(256);
+    if (how == 0 && text->length > 0)
+        text->at[at] = (char)(text->at[at] ^ (1 << draw(8)));
+    else if (how == 1)
+        text->length = at;
+    else if (how == 2)
+        put_in(text, at, &byte, 1);
+    else if (how == 3 && text->length > 0)
+        cut_out(text, at, at + 1);
+    else if (how == 4) {
+        size_t length = draw(sizeof long_word);
+        memset(long_word, in_ten(5) ? 'a' : '1', length);
+        put_in(text, at, long_word, length);
+    } else if (how == 5 && in_ten(2))
+        for (text->length = 0; text->length < 200;)
+            text->at[text->length++] = (char)draw(256);
+}
+
+static void damage(struct text *text)
+{
+    for (unsigned times = 1 + draw(3); times > 0; times--) {
+        unsigned how = draw(14);
+        if (how < 6)
+            damage_bytes(text, how);
+        else if (how < 10)
+            damage_line(text, how - 6);
+        else
+            damage_word(text);
+    }
+}
+
+/* The characters of a line, without its end. */
+static unsigned characters_of(const struct text *text, unsigned line)
+{
+    unsigned characters = 0;
+    for (size_t i = line_at(text, line); i < text->length && text->at[i] != '\n' && text->at[i] != '\r'; i++)
+        characters += ((unsigned char)text->at[i] & 0xC0) != 0x80;
+    return characters;
+}
+
+static unsigned lines_of(const struct text *text)
+{
+    unsigned lines = 1;
+    for (size_t i = 0; i < text->length; i++)
+        lines += text->at[i] == '\n' || (text->at[i] == '\r' && !(i + 1 < text->length && text->at[i + 1] == '\n'));
+    return lines;
+}
+
+static int is_error_within(const struct text *text)
+{
+    size_t length = strlen(error.words);
+    return error.line >= 1 && error.line <= lines_of(text) && error.column >= 1 && error.column <= characters_of(text, error.line) + 1 && length > 0 &&
+           length < MOST_WORDS && memchr(error.words, '\n', length) == NULL;
+}
+
+static unsigned compiled_though_damaged;
+
+/* A damaged text has an error, or is compiled to a level that is shown as the text says it. */
+static void damaged_text(const struct tables *book, unsigned nth)
+{
+    static struct level level;
+    memset(&error, 0, sizeof error);
+    damage(&damaged);
+    if (!compile_case(&damaged, book, &level, &error)) {
+        expect(is_error_within(&damaged), "the error of a damaged text has its place and words", nth);
+        return;
+    }
+    compiled_though_damaged++;
+    show_case(&level, book, &shown);
+    expect(leads_to(&shown, book, &level) && is_shown_the_same(&level, book), "a damaged text that is compiled is shown and compiled again", nth);
+    expect(shown_again(&damaged, &shown, book, &error), "a damaged text that is compiled is shown again", nth);
+}
+
+/* ---- drawn levels */
+
+static void drawn_level(unsigned nth)
+{
+    static struct level level;
+    static struct tables book;
+    if (in_ten(5))
+        draw_tables(&book, &no_book);
+    else
+        book = no_book;
+    draw_level(&level, &book);
+    show_case(&level, &book, &shown);
+    expect(leads_to(&shown, &book, &level) && has_lines(&shown), "a shown level leads back to its bytes, names and lines", nth);
+    expect(is_shown_the_same(&level, &book), "a level that is taken from its bytes is shown the same", nth);
+    expect(shown_again(&shown, &shown, &book, &error), "what is shown is shown again", nth);
+    write_freely(&level, &book, &damaged);
+    expect(leads_to(&damaged, &book, &level) && has_lines(&damaged), "a level written freely leads to its bytes, names and lines", nth);
+    show_case(&again, &book, &shown);
+    expect(shown_again(&damaged, &shown, &book, &error), "a level written freely is shown again", nth);
+    damaged_text(&book, nth);
+    drawn_books(&book, nth);
+}
+
+static void damaged_examples(void)
+{
+    for (unsigned nth = 0; nth < DAMAGED; nth++) {
+        damaged = example;
+        damaged_text(&no_book, nth);
+    }
+    expect(compiled_though_damaged > DAMAGED / 50, "some damaged texts are compiled", compiled_though_damaged);
+}
+
+/* ---- spoiled texts */
+
+/* Every word of the example in turn is left out, doubled, or another: the check by showing again must see it. */
+static void spoiled_words(void)
+{
+    static struct level level;
+    unsigned nth = 0;
+    compile_case(&example, &no_book, &level, &error);
+    show_case(&level, &no_book, &shown);
+    for (size_t from = 0, past; from < shown.length; from = past) {
+        while (from < shown.length && is_space(shown.at[from]))
+            from++;
+        for (past = from; past < shown.length && !is_space(shown.at[past]);)
+            past++;
+        if (past == from)
+            break;
+        nth++;
+        damaged = shown;
+        cut_out(&damaged, from, past);
+        expect(!shown_again(&shown, &damaged, &no_book, &error), "a word that is left out is seen", nth);
+        expect(!shown_again(&damaged, &shown, &no_book, &error), "a word that is put in is seen", nth);
+        damaged = shown;
+        damaged.at[past - 1] = damaged.at[past - 1] == '7' ? '8' : '7';
+        expect(!shown_again(&shown, &damaged, &no_book, &error), "a word that is another is seen", nth);
+        damaged = shown;
+        put_in(&damaged, past, damaged.at + from - 1, 0);
+        put_in(&damaged, past, " 9", 2);
+        expect(!shown_again(&shown, &damaged, &no_book, &error), "a word more is seen", nth);
+    }
+}
+
+/* The place of some words in the shown example. */
+static size_t place_of(const char *words)
+{
+    size_t length = strlen(words), at = 0;
+    while (at + length < shown.length && memcmp(shown.at + at, words, length) != 0)
+        at++;
+    return at;
+}
+
+/* Kinds of errors that a compiler could make: what is shown has `wrong` where it should have `right`, and the check by showing again must see it. */
+static void spoiled_statements(void)
+{
+    static const char *const spoiled[][2] = {{"    Tip     6-9\n", ""},
+                                             {"    Tip     6-9\n    Shaft  14-16\n", "    Shaft  14-16\n    Tip     6-9\n"},
+                                             {"    Tip     6-9\n", "    Face    6-9\n"},
+                                             {"6-9", "9-6"},
+                                             {"from Face   to Tip ", "from Tip    to Face"},
+                                             {"Incline", "Decline"},
+                                             {"Incline", "       "},
+                                             {"delays Men    priority 0", "delays Ore    priority 0"},
+                                             {"delays Men    priority 0", "type 2        priority 0"},
+                                             {"priority 2", "priority 1"},
+                                             {"+1 16%", "+1 17%"},
+                                             {"+1 16%  +4  4%", "+4  4%  +1 16%"},
+                                             {"type 2", "type 4"},
+                                             {"room    1024", "room    1023"},
+                                             {"window  60", "window  61"},
+                                             {"station Tip    holds 1\n", ""},
+                                             {"station Tip    holds 1\nstation Shaft  holds 2\n", "station Shaft  holds 2\nstation Tip    holds 1\n"},
+                                             {"title   Level 3, early shift\n", ""},
+                                             {"early shift", "late shift"},
+                                             {"\n\ntrain Ore-2", "\n    Face   24-30\n\ntrain Ore-2"},
+                                             {"    Face   15-20\n", "    Face   15-20\n\ntrain Ore-3  type 1  priority 0\n"}};
+    for (unsigned i = 0; i < sizeof spoiled / sizeof *spoiled; i++) {
+        size_t at = place_of(spoiled[i][0]), length = strlen(spoiled[i][0]);
+        int there = at + length <= shown.length && memcmp(shown.at + at, spoiled[i][0], length) == 0;
+        damaged = shown;
+        cut_out(&damaged, at, there ? at + length : at);
+        put_in(&damaged, at, spoiled[i][1], strlen(spoiled[i][1]));
+        expect(there && shown_again(&example, &shown, &no_book, &error), "the example is shown", i);
+        expect(!shown_again(&example, &damaged, &no_book, &error), "a spoiled statement is seen", i);
+    }
+}
+
+/* ---- errors */
+
+static void wrong_texts(void)
+{
+    static struct level level;
+    static struct tables book;
+    struct tables book_of_ore = {2, {{"Ore", 1, 1, {{0, 100}}, 0}, {"Coal", 9, 1, {{0, 100}}, 0}}};
+    for (unsigned i = 0; i < sizeof wrong / sizeof *wrong; i++) {
+        int compiled;
+        memset(&error, 0, sizeof error);
+        damaged.length = 0;
+        add(&damaged, wrong[i].text);
+        compiled = wrong[i].kind == A_BOOK ? compile_book(&damaged, &book, &error) : compile_case(&damaged, wrong[i].kind == WITH_BOOK ? &book_of_ore : &no_book, &level, &error);
+        if (compiled || error.line != wrong[i].line || error.column != wrong[i].column || strcmp(error.words, wrong[i].words) != 0)
+            printf("%s\n  %u:%u: %s\n", wrong[i].text, error.line, error.column, compiled ? "compiled" : error.words);
+        expect(!compiled && error.line == wrong[i].line && error.column == wrong[i].column && strcmp(error.words, wrong[i].words) == 0, "a wrong text has this very error", i);
+    }
+}
+
+/* ---- files */
+
+static int read_example(const char *name, struct text *text)
+{
+    FILE *file = fopen(name, "rb");
+    if (file == NULL)
+        return 0;
+    text->length = fread(text->at, 1, MOST_TEXT, file);
+    return fclose(file) == 0 && text->length > 0;
+}
+
+static void examples(void)
+{
+    static struct text text;
+    static struct level level;
+    expect(read_example("examples/shift.txt", &text) && compile_case(&text, &no_book, &level, &error), "the shift example is compiled", 0);
+    put_case(&level, &bytes);
+    expect(read_example("examples/shift.case", &text) && text.length == bytes.length && memcmp(text.at, bytes.at, bytes.length) == 0, "its bytes are those of its case", 0);
+    expect(read_example("examples/level.txt", &example), "the level is there", 0);
+}
+
+static unsigned read_length(const unsigned char *at)
+{
+    return at[0] * 256u + at[1];
+}
+
+/* Reads a file of a pair; at most the handed part is kept. */
+static int read_bytes(FILE *file, unsigned length, struct bytes *kept)
+{
+    static unsigned char whole[65536];
+    kept->length = length < HANDED ? length : HANDED;
+    if (fread(whole, 1, length, file) != length)
+        return 0;
+    memcpy(kept->at, whole, kept->length);
+    return 1;
+}
+
+static void accepted_pair(struct study *study, unsigned nth)
+{
+    take_case(&study->case_bytes, &study->level);
+    take_book(&study->book_bytes, &study->book);
+    show_case(&study->level, &study->book, &shown);
+    expect(leads_to(&shown, &study->book, &study->level) && same_bytes(&bytes_again, &study->case_bytes), "an accepted case leads back to its bytes", nth);
+    show_book(&study->book, &shown);
+    expect(leads_to_book(&shown, &study->book) && same_bytes(&bytes_again, &study->book_bytes), "an accepted book leads back to its bytes", nth);
+}
+
+static void pairs(const char *name)
+{
+    static struct study study;
+    FILE *file = fopen(name, "rb");
+    unsigned char lengths[4];
+    unsigned nth = 0, accepted = 0;
+    int whole = file != NULL;
+    for (; whole && fread(lengths, 1, sizeof lengths, file) == sizeof lengths; nth++) {
+        whole = read_bytes(file, read_length(lengths), &study.case_bytes) && read_bytes(file, read_length(lengths + 2), &study.book_bytes);
+        if (whole && ask_files(&study).refusal == 0) {
+            accepted++;
+            accepted_pair(&study, nth);
+        }
+    }
+    expect(whole && accepted > 0, "the pairs are read to their end, and some are accepted", nth);
+    if (file != NULL)
+        fclose(file);
+    printf("%u pairs, %u accepted\n", nth, accepted);
+}
+
+int main(int count, char **words)
+{
+    examples();
+    wrong_texts();
+    for (unsigned nth = 0; nth < LEVELS; nth++)
+        drawn_level(nth);
+    damaged_examples();
+    spoiled_words();
+    spoiled_statements();
+    if (count > 1)
+        pairs(words[1]);
+    printf("%u passed, %u failed\n", passed, failed);
+    return failed > 0;
+}
