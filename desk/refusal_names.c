@@ -1,0 +1,162 @@
+/* What the elements of a refused file are called, and which fields stand in it. */
+#include "refusal_words.h"
+
+#include <stdarg.h>
+#include <string.h>
+
+static const char *const kinds[] = {NULL, "head", "station", "track", "train", "delay table"};
+
+const char *kind_of(unsigned tag)
+{
+    return tag >= TAG_HEAD && tag <= TAG_TABLE ? kinds[tag] : NULL;
+}
+
+int possible_length(unsigned tag, unsigned size)
+{
+    switch (tag) {
+    case TAG_HEAD:
+        return size == 5;
+    case TAG_STATION:
+        return size == 1;
+    case TAG_TRACK:
+        return size == 3;
+    case TAG_TRAIN:
+        return size >= 12 && size <= 42 && size % 5 == 2;
+    case TAG_TABLE:
+        return size >= 3 && size <= 17 && size % 2 == 1;
+    default:
+        return 0;
+    }
+}
+
+unsigned count_before(const struct bytes *bytes, unsigned tag, size_t place)
+{
+    struct field field;
+    unsigned count = 0;
+    int whole = field_at(bytes, 0, &field);
+    for (; whole && field.place < place; whole = field_at(bytes, field.place + FIELD_HEADER + field.size, &field))
+        count += field.tag == tag;
+    return count;
+}
+
+const uint8_t *body_of(const struct fault *fault)
+{
+    return fault->whole && possible_length(fault->field.tag, fault->field.size) ? fault->bytes->at + fault->field.place + FIELD_HEADER : NULL;
+}
+
+const uint8_t *nth_body(const struct bytes *bytes, unsigned tag, unsigned nth)
+{
+    struct field field;
+    int whole = field_at(bytes, 0, &field);
+    for (; whole; whole = field_at(bytes, field.place + FIELD_HEADER + field.size, &field))
+        if (field.tag == tag && field.nth == nth)
+            return possible_length(tag, field.size) ? bytes->at + field.place + FIELD_HEADER : NULL;
+    return NULL;
+}
+
+unsigned number_at(const uint8_t *at)
+{
+    return at[0] * 256u + at[1];
+}
+
+/* ---- names */
+
+struct called call(const char *kind, const char *name, unsigned number)
+{
+    struct called called;
+    if (name == NULL)
+        snprintf(called.text, sizeof called.text, "%s %u", kind, number);
+    else
+        snprintf(called.text, sizeof called.text, strchr(name, ' ') != NULL ? "%s \"%s\"" : "%s %s", kind, name);
+    return called;
+}
+
+struct called station_called(const struct fault *fault, unsigned number)
+{
+    const struct level *level = &fault->study->level;
+    return call("station", fault->study->case_is_text && number < level->stations ? level->station[number].name : NULL, number);
+}
+
+struct called track_called(const struct fault *fault, unsigned number)
+{
+    const struct level *level = &fault->study->level;
+    return call("track", fault->study->case_is_text && number < level->tracks ? level->track[number].name : NULL, number);
+}
+
+struct called train_called(const struct fault *fault, unsigned number)
+{
+    const struct level *level = &fault->study->level;
+    return call("train", fault->study->case_is_text && number < level->trains ? level->train[number].name : NULL, number);
+}
+
+static const struct table *text_table(const struct fault *fault, unsigned number)
+{
+    const struct tables *tables = fault->in_book ? &fault->study->book : &fault->study->level.tables;
+    int is_text = fault->in_book ? fault->study->book_is_text : fault->study->case_is_text;
+    return is_text && number < tables->count ? &tables->table[number] : NULL;
+}
+
+struct called table_called(const struct fault *fault, unsigned number)
+{
+    const struct table *table = text_table(fault, number);
+    return call("delay table", table != NULL ? table->name : NULL, number);
+}
+
+struct called element_called(const struct fault *fault)
+{
+    switch (fault->field.tag) {
+    case TAG_STATION:
+        return station_called(fault, fault->field.nth);
+    case TAG_TRACK:
+        return track_called(fault, fault->field.nth);
+    case TAG_TRAIN:
+        return train_called(fault, fault->field.nth);
+    case TAG_TABLE:
+        return table_called(fault, fault->field.nth);
+    default:
+        return (struct called){"the head"};
+    }
+}
+
+unsigned element_line(const struct fault *fault)
+{
+    const struct level *level = &fault->study->level;
+    const struct table *table = text_table(fault, fault->field.nth);
+    unsigned nth = fault->field.nth;
+    if (fault->field.tag == TAG_TABLE)
+        return table != NULL ? table->line : 0;
+    if (!fault->study->case_is_text || fault->in_book)
+        return 0;
+    if (fault->field.tag == TAG_STATION && nth < level->stations)
+        return level->station[nth].line;
+    if (fault->field.tag == TAG_TRACK && nth < level->tracks)
+        return level->track[nth].line;
+    return fault->field.tag == TAG_TRAIN && nth < level->trains ? level->train[nth].line : 0;
+}
+
+/* ---- sentences */
+
+static void add_sentence(char *to, size_t most, const char *format, va_list values)
+{
+    size_t length = strlen(to);
+    vsnprintf(to + length, most - length - 1, format, values);
+    length = strlen(to);
+    to[length] = '\n';
+    to[length + 1] = '\0';
+}
+
+void say_wrong(struct words *words, const char *format, ...)
+{
+    va_list values;
+    va_start(values, format);
+    add_sentence(words->wrong, sizeof words->wrong, format, values);
+    va_end(values);
+}
+
+void say_mend(struct words *words, const char *format, ...)
+{
+    va_list values;
+    va_start(values, format);
+    add_sentence(words->mend, sizeof words->mend, format, values);
+    va_end(values);
+}

@@ -1,0 +1,128 @@
+/* Refusals 10 to 12 in words: delay tables, types without a table, and the room. */
+#include <string.h>
+
+#include "refusal_words.h"
+
+enum { PAIR_BYTES = 2, WHOLE_TABLE = 100, SENTENCE_BYTES = 600 };
+
+/* ---- 10 */
+
+static unsigned pairs_of(const struct fault *fault)
+{
+    return (fault->field.size - 1) / PAIR_BYTES;
+}
+
+static struct pair pair_at(const uint8_t *body, unsigned i)
+{
+    struct pair pair = {body[1 + (size_t)i * PAIR_BYTES], body[2 + (size_t)i * PAIR_BYTES]};
+    return pair;
+}
+
+static int does_not_rise(const struct fault *fault, const uint8_t *body, struct words *words)
+{
+    for (unsigned i = 1; i < pairs_of(fault); i++) {
+        unsigned before = pair_at(body, i - 1).delay, delay = pair_at(body, i).delay;
+        if (before < delay)
+            continue;
+        say_wrong(words, "the delays of %s don't rise: +%u stands after +%u.", element_called(fault).text, delay, before);
+        say_mend(words, "write the delays from the shortest to the longest, each once.");
+        return 1;
+    }
+    return 0;
+}
+
+static int has_no_weight(const struct fault *fault, const uint8_t *body, struct words *words)
+{
+    for (unsigned i = 0; i < pairs_of(fault); i++) {
+        if (pair_at(body, i).weight > 0)
+            continue;
+        say_wrong(words, "delay +%u of %s has weight 0; a weight is at least 1.", pair_at(body, i).delay, element_called(fault).text);
+        say_mend(words, "leave that delay out, or give it a weight.");
+        return 1;
+    }
+    return 0;
+}
+
+static int has_wrong_sum(const struct fault *fault, const uint8_t *body, struct words *words)
+{
+    unsigned sum = 0;
+    for (unsigned i = 0; i < pairs_of(fault); i++)
+        sum += pair_at(body, i).weight;
+    if (sum == WHOLE_TABLE)
+        return 0;
+    say_wrong(words, "the weights of %s sum to %u, not to 100: %u too %s.", element_called(fault).text, sum,
+              sum > WHOLE_TABLE ? sum - WHOLE_TABLE : WHOLE_TABLE - sum, sum > WHOLE_TABLE ? "many" : "few");
+    say_mend(words, "change the weights so that they sum to 100.");
+    return 1;
+}
+
+void words_of_table(const struct fault *fault, struct words *words)
+{
+    const uint8_t *body = body_of(fault), *before;
+    unsigned nth = fault->field.nth;
+    if (body == NULL || fault->field.tag != TAG_TABLE)
+        return;
+    if (does_not_rise(fault, body, words) || has_no_weight(fault, body, words) || has_wrong_sum(fault, body, words) || nth == 0)
+        return;
+    before = nth_body(fault->bytes, TAG_TABLE, nth - 1);
+    if (before == NULL || before[0] < body[0])
+        return;
+    say_wrong(words, "%s has type %u, and %s before it has type %u: types must rise.", element_called(fault).text, body[0], table_called(fault, nth - 1).text,
+              before[0]);
+    say_mend(words, "put the tables in the order of their types, each type once.");
+}
+
+/* ---- 11 */
+
+/* The types of a file's tables: ` 1, 2, 7`; false if the asked one is among them. */
+static int list_types(const struct bytes *bytes, unsigned asked, char *list)
+{
+    const uint8_t *body;
+    *list = '\0';
+    for (unsigned i = 0; (body = nth_body(bytes, TAG_TABLE, i)) != NULL && i < MOST_TABLES; i++) {
+        sprintf(list + strlen(list), i == 0 ? " %u" : ", %u", body[0]);
+        if (body[0] == asked)
+            return 0;
+    }
+    return 1;
+}
+
+static void say_types(struct words *words, const char *file, const char *list)
+{
+    if (*list == '\0')
+        say_wrong(words, "the %s has no delay tables.", file);
+    else
+        say_wrong(words, "the %s has %s%s.", file, strchr(list, ',') == NULL ? "a delay table of type" : "delay tables of types", list);
+}
+
+void words_of_type(const struct fault *fault, struct words *words)
+{
+    const uint8_t *body = body_of(fault);
+    char of_case[MOST_TABLES * 5 + 1], of_book[MOST_TABLES * 5 + 1];
+    if (body == NULL || fault->field.tag != TAG_TRAIN)
+        return;
+    if (!list_types(&fault->study->case_bytes, body[1], of_case) || !list_types(&fault->study->book_bytes, body[1], of_book))
+        return;
+    say_wrong(words, "%s has type %u, but no delay table has type %u.", train_called(fault, fault->field.nth).text, body[1], body[1]);
+    say_types(words, "case", of_case);
+    if (fault->study->book_name != NULL)
+        say_types(words, "book", of_book);
+    else
+        say_wrong(words, "no book was given.");
+    say_mend(words, fault->study->book_name != NULL ? "add a delay table of that type, or change the train's type."
+                                                     : "give the book with --book, or add a delay table of that type, or change the train's type.");
+}
+
+/* ---- 12 */
+
+void words_of_room(const struct fault *fault, struct words *words)
+{
+    const uint8_t *head = nth_body(&fault->study->case_bytes, TAG_HEAD, 0);
+    unsigned room = head != NULL ? number_at(head + 3) : 0;
+    if (head == NULL)
+        return;
+    say_wrong(words, "the run needs more than %u %s, which is the room of this case.", room, room == 1 ? "row" : "rows");
+    if (room < MOST_ROOM)
+        say_mend(words, "ask for more room, up to %d rows.", (int)MOST_ROOM);
+    say_mend(words, "%s: fewer delays in the tables, or fewer trains.", room < MOST_ROOM ? "these make the list shorter too" : "there can't be more room. These make the list shorter");
+}
