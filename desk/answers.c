@@ -40,7 +40,8 @@ struct lampreysong_answer ask_files(const struct study *study)
 struct lampreysong_answer ask_book(const struct study *study)
 {
     /* A small case that is sound: two stations, a track, a train and its table. */
-    static const uint8_t sound[] = {1, 0, 5, 0, 9, 0, 0, 9, 2, 0, 1, 1, 2, 0, 1, 1, 3, 0, 3, 0, 1, 1, 4, 0, 12, 0, 0, 0, 0, 0, 0, 0, 1, 0, 1, 0, 1, 5, 0, 3, 0, 0, 100};
+    static const uint8_t sound[] = {1, 0, 5,  0, 9, 0, 0, 9, 2, 0, 1, 1, 2, 0, 1, 1, 3, 0, 3, 0, 1, 1,
+                                    4, 0, 12, 0, 0, 0, 0, 0, 0, 0, 1, 0, 1, 0, 1, 5, 0, 3, 0, 0, 100};
     return judge(sound, sizeof sound, &study->book_bytes);
 }
 

@@ -117,7 +117,8 @@ static void print_row(const struct view *view, unsigned k, const struct counted 
 
 static void print_limit(const struct view *view)
 {
-    fprintf(view->out, "On time: at most %u %s after plan. Shares are of 100 choices, by weight.\n\n", view->limit, view->limit == 1 ? "minute" : "minutes");
+    fprintf(view->out, "On time: at most %u %s after plan. Shares are of 100 choices, by weight.\n\n", view->limit,
+            view->limit == 1 ? "minute" : "minutes");
 }
 
 static void print_heading(const struct view *view)
@@ -128,7 +129,8 @@ static void print_heading(const struct view *view)
     print_left(view->out, "", columns);
     fprintf(view->out, "  %7s  %7s  %7s  %11s  %13s  %s\n", "", "", "", "", "mean lateness", "minute by which");
     print_left(view->out, "train", columns);
-    fprintf(view->out, "  %7s  %7s  %7s  %11s  %13s  %6s  %4s  %4s  of 100 arrived\n", "planned", "on time", "late", "not arrived", "of arrived", "50", "80", "95");
+    fprintf(view->out, "  %7s  %7s  %7s  %11s  %13s  %6s  %4s  %4s  of 100 arrived\n", "planned", "on time", "late", "not arrived", "of arrived", "50",
+            "80", "95");
 }
 
 /* Nothing is printed before every train's figures are there. */
@@ -176,18 +178,21 @@ static void print_minutes(const struct view *view, unsigned k)
 static int print_one(const struct view *view, unsigned k)
 {
     const struct level *level = &view->study->level;
+    const struct train *train;
     struct counted counted;
     int status = ask(view, k, &counted);
     if (status != ANSWERED)
         return status;
+    train = &level->train[k];
     print_title(view->out, level);
     print_limit(view);
-    fprintf(view->out, "%s, planned at %s in minute %u\n", level->train[k].name, last_station(level, &level->train[k]), planned_arrival(&level->train[k]));
+    fprintf(view->out, "%s, planned at %s in minute %u\n", train->name, last_station(level, train), planned_arrival(train));
     print_punctuality(view, &counted);
     print_share(view, "on time", counted.on_time);
     print_share(view, "late", counted.late);
     print_share(view, "not arrived", counted.not_arrived);
-    fprintf(view->out, "  %-13s  %7s%s\n", "mean lateness", mean_text(&counted).text, counted.arrived > 0 ? " minutes, where it arrives" : ", as it never arrives");
+    fprintf(view->out, "  %-13s  %7s%s\n", "mean lateness", mean_text(&counted).text,
+            counted.arrived > 0 ? " minutes, where it arrives" : ", as it never arrives");
     print_minutes(view, k);
     return end_output(view->out, NULL);
 }

@@ -76,16 +76,17 @@ static void print_file(FILE *out, const struct fault *fault)
 /* The file, and the line and name or number of the element if a field was refused. */
 static void print_where(FILE *out, const struct fault *fault, unsigned line)
 {
-    int named = fault->in_book ? fault->study->book_is_text : fault->study->case_is_text;
+    const char *kind = fault->has_header ? kind_of(fault->field.tag) : NULL;
     fputs("  where  ", out);
     print_file(out, fault);
     if (line > 0)
         fprintf(out, ", line %u", line);
-    if (fault->has_header && kind_of(fault->field.tag) != NULL) {
-        fprintf(out, ": %s", element_called(fault).text);
-        if (fault->field.tag != TAG_HEAD)
-            fprintf(out, " (%s%s %u, counted from 0)", named ? "" : "the file's ", kind_of(fault->field.tag), fault->field.nth);
-    }
+    if (kind != NULL && fault->field.tag == TAG_HEAD)
+        fprintf(out, ": %s", was_text(fault) ? "window, safety and room" : kind);
+    else if (kind != NULL && was_text(fault))
+        fprintf(out, ": %s (%s %u, counted from 0)", element_called(fault).text, kind, fault->field.nth);
+    else if (kind != NULL)
+        fprintf(out, ": %s %u, counted from 0", kind, fault->field.nth);
     fputc('\n', out);
 }
 
@@ -93,11 +94,13 @@ static void print_bytes(FILE *out, const struct fault *fault)
 {
     size_t place = fault->field.place, left = fault->bytes->length - place;
     size_t size = fault->whole ? FIELD_HEADER + (size_t)fault->field.size : left;
+    const char *of = !was_text(fault) ? "" : fault->in_book ? " of the compiled book" : " of the compiled case";
     if (left == 0) {
-        fprintf(out, "  bytes  the file ends at byte %lu, after %u fields\n", (unsigned long)place, fault->field.number - 1);
+        if (place > 0)
+            fprintf(out, "  bytes  the end%s, at byte %lu, after field %u\n", of, (unsigned long)place, fault->field.number - 1);
         return;
     }
-    fprintf(out, "  bytes  field %u, at byte %lu:", fault->field.number, (unsigned long)place);
+    fprintf(out, "  bytes  field %u%s, at byte %lu:", fault->field.number, of, (unsigned long)place);
     for (size_t i = 0; i < size && i < MOST_SHOWN; i++)
         fprintf(out, " %02x", fault->bytes->at[place + i]);
     fputs(size > MOST_SHOWN ? " ..\n" : "\n", out);
@@ -158,8 +161,8 @@ static void words_of_choice(const struct study *study, const struct asked *asked
         const struct table *table = table_of(level, &study->book, level->train[k].type);
         if (table == NULL || asked->choice[k] < table->pairs)
             continue;
-        say_wrong(words, "%s is given index %u, but its %s has %u %s.", call("train", level->train[k].name, k).text, asked->choice[k],
-                  call("delay table", table->name, k).text, table->pairs, table->pairs == 1 ? "delay" : "delays");
+        say_wrong(words, "%s is given index %u, but its %s has %u %s.", named("train", level->train[k].name, k).text, asked->choice[k],
+                  named("delay table", table->name, k).text, table->pairs, table->pairs == 1 ? "delay" : "delays");
         say_mend(words, "indices count from 0 in the table; --delays takes the delays themselves.");
         return;
     }

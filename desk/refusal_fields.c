@@ -19,11 +19,11 @@ void words_of_overrun(const struct fault *fault, struct words *words)
         return;
     if (!fault->has_header)
         say_wrong(words, "a field begins with 3 bytes, its tag and its length, but only %lu %s left.", (unsigned long)left, left == 1 ? "is" : "are");
+    else if (left == FIELD_HEADER)
+        say_wrong(words, "its length announces %u %s, but the file ends here.", fault->field.size, fault->field.size == 1 ? "byte" : "bytes");
     else
         say_wrong(words, "its length announces %u bytes, but the file has only %lu more.", fault->field.size, (unsigned long)(left - FIELD_HEADER));
-    if (fault->bytes->length == HANDED)
-        say_wrong(words, "only the first %d bytes of a file are read; no accepted case has more than 819.", (int)HANDED);
-    say_mend(words, "the file was cut off, or a length in it is wrong. Make the file again from its text.");
+    say_mend(words, "the file was cut off, or a length in it is wrong. Make it again, or copy it again.");
 }
 
 /* ---- 2 */
@@ -73,18 +73,20 @@ static void words_of_first_tag(const struct fault *fault, struct words *words)
 {
     const struct bytes *bytes = fault->bytes;
     size_t odd = first_unprinted(bytes);
+    int is_hex = looks_like_hex(bytes);
     if (looks_like_utf16(bytes)) {
         say_wrong(words, "the file begins like text that was saved as UTF-16.");
         say_mend(words, "save the text as UTF-8.");
-    } else if (odd < bytes->length && (odd >= LOOKED_AT || looks_like_hex(bytes))) {
-        say_wrong(words, looks_like_hex(bytes) ? "this looks like hex written as text." : "this looks like text.");
-        say_wrong(words, "byte %lu is the control character %02x, so the file was not read as text.", (unsigned long)odd, bytes->at[odd]);
-        say_mend(words, "take the control character out.");
-    } else if (looks_like_hex(bytes)) {
-        say_wrong(words, "this looks like hex written as text.");
-        say_mend(words, "make bytes of it first (examples/to-bytes does so), or write the %s as text.", file_kind(fault));
+    } else if (is_hex || (odd >= LOOKED_AT && odd < bytes->length)) {
+        say_wrong(words, is_hex ? "this looks like hex written as text." : "this looks like text.");
+        if (odd < bytes->length)
+            say_wrong(words, "byte %lu is the control character %02x, so the file was not read as text.", (unsigned long)odd, bytes->at[odd]);
+        if (is_hex)
+            say_mend(words, "make bytes of it first (examples/to-bytes does so), or write the %s as text.", file_kind(fault));
+        else
+            say_mend(words, "take the control character out.");
     } else
-        say_mend(words, "is this a %s? Its bytes begin with %s.", file_kind(fault), fault->in_book ? "05 00" : "01 00 05");
+        say_mend(words, "is this a %s? The bytes of a %s begin with %s.", file_kind(fault), file_kind(fault), fault->in_book ? "05 00" : "01 00 05");
 }
 
 void words_of_tag(const struct fault *fault, struct words *words)
@@ -95,8 +97,7 @@ void words_of_tag(const struct fault *fault, struct words *words)
     if (fault->field.place == 0)
         words_of_first_tag(fault, words);
     else
-        say_mend(words, "the length of the field before this place may be wrong, so that the reading is out of step.\n"
-                        "`lampreysong show --fields` prints the file field by field.");
+        say_mend(words, "a length before this place may be wrong. `lampreysong show --fields` prints the file field by field.");
 }
 
 /* ---- 3 */
@@ -155,7 +156,7 @@ static void words_of_text_length(const struct fault *fault, struct words *words)
         say_mend(words, "write the stations that it comes to, the first and the last at least.");
     } else if (fault->field.tag == TAG_TABLE && fault->field.size == 1) {
         say_wrong(words, "%s has no delays; a table has 1 to %d.", element_called(fault).text, (int)MOST_PAIRS);
-        say_mend(words, "write each delay with its weight; +0 100%% is a table of trains that are never late.");
+        say_mend(words, "write each delay with its weight; +0 100%% is the table of trains without delay.");
     }
 }
 
@@ -164,12 +165,12 @@ void words_of_length(const struct fault *fault, struct words *words)
     unsigned tag = fault->field.tag, size = fault->field.size;
     if (!fault->has_header || kind_of(tag) == NULL || possible_length(tag, size))
         return;
-    if (fault->in_book ? fault->study->book_is_text : fault->study->case_is_text) {
+    if (was_text(fault)) {
         words_of_text_length(fault, words);
         return;
     }
     say_wrong(words, "its length is %u %s; the length of a %s is %s.", size, size == 1 ? "byte" : "bytes", kind_of(tag), lengths[tag]);
-    say_mend(words, "correct the length, or what stands after it. `lampreysong show --fields` prints the file field by field.");
+    say_mend(words, "correct the length, or the bytes after it. `lampreysong show --fields` prints the file field by field.");
 }
 
 /* ---- 5 */

@@ -61,7 +61,7 @@ unsigned number_at(const uint8_t *at)
 
 /* ---- names */
 
-struct called call(const char *kind, const char *name, unsigned number)
+struct called named(const char *kind, const char *name, unsigned number)
 {
     struct called called;
     if (name == NULL)
@@ -71,35 +71,44 @@ struct called call(const char *kind, const char *name, unsigned number)
     return called;
 }
 
+const struct level *text_level(const struct fault *fault)
+{
+    return fault->study->case_is_text && !fault->in_book ? &fault->study->level : NULL;
+}
+
+int was_text(const struct fault *fault)
+{
+    return fault->in_book ? fault->study->book_is_text : fault->study->case_is_text;
+}
+
 struct called station_called(const struct fault *fault, unsigned number)
 {
-    const struct level *level = &fault->study->level;
-    return call("station", fault->study->case_is_text && number < level->stations ? level->station[number].name : NULL, number);
+    const struct level *level = text_level(fault);
+    return named("station", level != NULL && number < level->stations ? level->station[number].name : NULL, number);
 }
 
 struct called track_called(const struct fault *fault, unsigned number)
 {
-    const struct level *level = &fault->study->level;
-    return call("track", fault->study->case_is_text && number < level->tracks ? level->track[number].name : NULL, number);
+    const struct level *level = text_level(fault);
+    return named("track", level != NULL && number < level->tracks ? level->track[number].name : NULL, number);
 }
 
 struct called train_called(const struct fault *fault, unsigned number)
 {
-    const struct level *level = &fault->study->level;
-    return call("train", fault->study->case_is_text && number < level->trains ? level->train[number].name : NULL, number);
+    const struct level *level = text_level(fault);
+    return named("train", level != NULL && number < level->trains ? level->train[number].name : NULL, number);
 }
 
 static const struct table *text_table(const struct fault *fault, unsigned number)
 {
     const struct tables *tables = fault->in_book ? &fault->study->book : &fault->study->level.tables;
-    int is_text = fault->in_book ? fault->study->book_is_text : fault->study->case_is_text;
-    return is_text && number < tables->count ? &tables->table[number] : NULL;
+    return was_text(fault) && number < tables->count ? &tables->table[number] : NULL;
 }
 
 struct called table_called(const struct fault *fault, unsigned number)
 {
     const struct table *table = text_table(fault, number);
-    return call("delay table", table != NULL ? table->name : NULL, number);
+    return named("delay table", table != NULL ? table->name : NULL, number);
 }
 
 struct called element_called(const struct fault *fault)
@@ -120,12 +129,12 @@ struct called element_called(const struct fault *fault)
 
 unsigned element_line(const struct fault *fault)
 {
-    const struct level *level = &fault->study->level;
+    const struct level *level = text_level(fault);
     const struct table *table = text_table(fault, fault->field.nth);
     unsigned nth = fault->field.nth;
     if (fault->field.tag == TAG_TABLE)
         return table != NULL ? table->line : 0;
-    if (!fault->study->case_is_text || fault->in_book)
+    if (level == NULL)
         return 0;
     if (fault->field.tag == TAG_STATION && nth < level->stations)
         return level->station[nth].line;

@@ -3,7 +3,7 @@
 
 #include "refusal_words.h"
 
-enum { PAIR_BYTES = 2, WHOLE_TABLE = 100, SENTENCE_BYTES = 600 };
+enum { PAIR_BYTES = 2, WHOLE_TABLE = 100, TYPES_BYTES = MOST_TABLES * 5 + 1 };
 
 /* ---- 10 */
 
@@ -98,7 +98,7 @@ static void say_types(struct words *words, const char *file, const char *list)
 void words_of_type(const struct fault *fault, struct words *words)
 {
     const uint8_t *body = body_of(fault);
-    char of_case[MOST_TABLES * 5 + 1], of_book[MOST_TABLES * 5 + 1];
+    char of_case[TYPES_BYTES], of_book[TYPES_BYTES];
     if (body == NULL || fault->field.tag != TAG_TRAIN)
         return;
     if (!list_types(&fault->study->case_bytes, body[1], of_case) || !list_types(&fault->study->book_bytes, body[1], of_book))
@@ -124,5 +124,7 @@ void words_of_room(const struct fault *fault, struct words *words)
     say_wrong(words, "the run needs more than %u %s, which is the room of this case.", room, room == 1 ? "row" : "rows");
     if (room < MOST_ROOM)
         say_mend(words, "ask for more room, up to %d rows.", (int)MOST_ROOM);
-    say_mend(words, "%s: fewer delays in the tables, or fewer trains.", room < MOST_ROOM ? "these make the list shorter too" : "there can't be more room. These make the list shorter");
+    else
+        say_mend(words, "there can't be more room.");
+    say_mend(words, "fewer delays in the tables or fewer trains make the list shorter.");
 }

@@ -16,18 +16,19 @@ static int out_of_range(struct words *words, const struct range *range)
     if (range->found >= range->least && range->found <= range->most)
         return 0;
     say_wrong(words, "the %s is %u%s; it can be %u to %u.", range->what, range->found, range->unit, range->least, range->most);
-    say_mend(words, "choose a number of %u to %u.", range->least, range->most);
+    say_mend(words, "choose a number from %u to %u.", range->least, range->most);
     return 1;
 }
 
-static void words_of_head(const uint8_t *body, struct words *words)
+static void words_of_head(const struct fault *fault, const uint8_t *body, struct words *words)
 {
     const struct range ranges[] = {{"last minute", "", number_at(body), 1, MOST_MINUTE},
                                    {"safety time", " minutes", body[2], 0, MOST_SAFETY},
                                    {"room", " rows", number_at(body + 3), 1, MOST_ROOM}};
-    for (unsigned i = 0; i < 3; i++)
-        if (out_of_range(words, &ranges[i]))
-            return;
+    if (out_of_range(words, &ranges[0]))
+        words->line = text_level(fault) != NULL ? text_level(fault)->head.line : 0; /* of the window */
+    else if (!out_of_range(words, &ranges[1]))
+        out_of_range(words, &ranges[2]);
 }
 
 void words_of_range(const struct fault *fault, struct words *words)
@@ -37,7 +38,7 @@ void words_of_range(const struct fault *fault, struct words *words)
     if (body == NULL)
         return;
     if (tag == TAG_HEAD)
-        words_of_head(body, words);
+        words_of_head(fault, body, words);
     else if ((tag == TAG_STATION && body[0] == 0) || (tag == TAG_TRACK && body[2] == 0)) {
         say_wrong(words, "%s holds 0 trains; a capacity is 1 to 255.", element_called(fault).text);
         say_mend(words, "let it hold at least one train, or take it out.");
@@ -96,6 +97,8 @@ void words_of_ends(const struct fault *fault, struct words *words)
         return;
     say_wrong(words, "%s leads from %s to %s, as %s does already.", track_called(fault, nth).text, station_called(fault, body[0]).text,
               station_called(fault, body[1]).text, track_called(fault, same).text);
+    if (text_level(fault) != NULL && same < text_level(fault)->tracks)
+        say_wrong(words, "that one stands in line %u.", text_level(fault)->track[same].line);
     say_mend(words, "take one of the two out, and let the other hold the trains of both.");
 }
 
@@ -105,9 +108,9 @@ void words_of_ends(const struct fault *fault, struct words *words)
 static struct stop stop_at(const struct fault *fault, const uint8_t *body, unsigned i)
 {
     const uint8_t *at = body + 2 + (size_t)i * STOP_BYTES;
-    const struct level *level = &fault->study->level;
+    const struct level *level = text_level(fault);
     struct stop stop = {at[0], number_at(at + 1), number_at(at + 3), 0};
-    if (fault->study->case_is_text && fault->field.nth < level->trains && i < level->train[fault->field.nth].stops)
+    if (level != NULL && fault->field.nth < level->trains && i < level->train[fault->field.nth].stops)
         stop.line = level->train[fault->field.nth].stop[i].line;
     return stop;
 }
@@ -179,7 +182,8 @@ static int out_of_order(const struct fault *fault, const uint8_t *body, unsigned
     struct called train = train_called(fault, fault->field.nth), station = station_called(fault, here.station);
     words->line = here.line;
     if (here.arrival > here.departure) {
-        say_wrong(words, "%s arrives at %s in minute %u, but leaves it in minute %u, which is earlier.", train.text, station.text, here.arrival, here.departure);
+        say_wrong(words, "%s arrives at %s in minute %u, but leaves it in minute %u, which is earlier.", train.text, station.text, here.arrival,
+                  here.departure);
         say_mend(words, "let it leave in the minute of its arrival or later.");
         return 1;
     }

@@ -24,6 +24,12 @@ struct words {
     char mend[MEND_BYTES];
 };
 
+/* Whether the refused file was text. */
+int was_text(const struct fault *fault);
+
+/* The level of the refused case if it was text, with names and lines; otherwise null. */
+const struct level *text_level(const struct fault *fault);
+
 /* A name in a sentence: `station Tip`, or `station 1` where there are no names. */
 struct called {
     char text[CALLED_BYTES];
@@ -32,9 +38,9 @@ struct called station_called(const struct fault *fault, unsigned number);
 struct called track_called(const struct fault *fault, unsigned number);
 struct called train_called(const struct fault *fault, unsigned number);
 struct called table_called(const struct fault *fault, unsigned number);
-struct called call(const char *kind, const char *name, unsigned number);
+struct called named(const char *kind, const char *name, unsigned number); /* name is null if there is none */
 
-/* The element that the field describes, and its line; `the head` for the head. */
+/* The element that the field describes, and its line. The head has none: a text says it on several. */
 struct called element_called(const struct fault *fault);
 unsigned element_line(const struct fault *fault);
 

@@ -9,7 +9,7 @@
 #include "numbers.h"
 #include "refusal.h"
 
-enum { MOST_ITEMS = 255, MOST_ITEM = 255, ITEM_BYTES = 8, DELAYS_BYTES = MOST_PAIRS * 8 };
+enum { MOST_ITEMS = 255, MOST_ITEM = 255, ITEM_BYTES = 8, MOST_SAID = 40, DELAYS_BYTES = MOST_PAIRS * 8 };
 
 /* The numbers of a list: `+3,+0` or `1,0`. */
 struct items {
@@ -23,7 +23,7 @@ static int read_item(const char *at, size_t length, struct items *items)
 {
     char item[ITEM_BYTES];
     unsigned long number;
-    if (length >= sizeof item || items->count == MOST_ITEMS)
+    if (length >= sizeof item)
         return 0;
     memcpy(item, at, length);
     item[length] = '\0';
@@ -33,26 +33,35 @@ static int read_item(const char *at, size_t length, struct items *items)
     return 1;
 }
 
-/* Reads a list; false, and said, if it is none. A delay may have a plus sign. */
-static int read_items(const char *list, int delays, struct items *items)
+/* Says which item of a list is none; `length` bytes from `at` on are the item. */
+static void say_item(const char *option, const char *list, const char *at, size_t length)
 {
-    const char *at = list;
+    const char *item = strcmp(option, "--delays") == 0 ? "a delay" : "an index";
+    if (length == 0)
+        misused("%s %s: an item is empty; %s of 0 to %d is expected", option, list, item, (int)MOST_ITEM);
+    else
+        misused("%s %s: `%.*s` is not %s of 0 to %d", option, list, (int)(length < MOST_SAID ? length : MOST_SAID), at, item, (int)MOST_ITEM);
+}
+
+/* Reads a list; false, and said, if it is none. A delay may have a plus sign. */
+static int read_items(const char *option, const char *list, struct items *items)
+{
+    int delays = strcmp(option, "--delays") == 0;
+    const char *at = list, *end;
     items->count = 0;
-    for (;;) {
-        const char *begin = delays && *at == '+' ? at + 1 : at;
-        size_t length = strcspn(begin, ",");
+    for (;; at = end + 1) {
+        const char *digits = delays && *at == '+' ? at + 1 : at;
+        end = digits + strcspn(digits, ",");
         if (items->count == MOST_ITEMS) {
-            misused("the list has more than %d items; give one for each train", (int)MOST_ITEMS);
+            misused("%s has more than %d items; give one for each train", option, (int)MOST_ITEMS);
             return 0;
         }
-        if (!read_item(begin, length, items)) {
-            misused("`%.*s` in %s %s: %s of 0 to %d is expected, as in %s", (int)(begin + length - at < 40 ? begin + length - at : 40), at,
-                    delays ? "--delays" : "--choice", list, delays ? "a delay in minutes" : "an index", (int)MOST_ITEM, delays ? "+3,+0" : "1,0");
+        if (!read_item(digits, (size_t)(end - digits), items)) {
+            say_item(option, list, at, (size_t)(end - at));
             return 0;
         }
-        if (begin[length] == '\0')
+        if (*end == '\0')
             return 1;
-        at = begin + length + 1;
     }
 }
 
@@ -151,11 +160,26 @@ static void print_choice(const struct view *view)
     const struct level *level = &view->study->level;
     uint64_t weight = choice_weight(view), whole = whole_weight(level);
     print_title(view->out, level);
-    fprintf(view->out, "This choice weighs %" PRIu64 " of %" PRIu64 ": %s of 100. Late is in minutes after plan.\n\n", weight, whole, share_text(weight, whole).text);
+    fprintf(view->out, "This choice weighs %" PRIu64 " of %" PRIu64 ": %s of 100. Late is in minutes after plan.\n\n", weight, whole,
+            share_text(weight, whole).text);
     print_left(view->out, "train", train_columns(level));
     fputs("  delay  planned  arrives   late  at\n", view->out);
     for (unsigned k = view->first; k < view->end; k++)
         print_arrival(view, k);
+}
+
+/* Reads the one list that is given; false, and said, if it is not one or not a list. */
+static int read_list(const struct request *request, struct items *items)
+{
+    if (request->delays != NULL && request->choice != NULL)
+        misused("--delays and --choice both give a choice; leave one of them out");
+    else if (request->delays != NULL)
+        return read_items("--delays", request->delays, items);
+    else if (request->choice != NULL)
+        return read_items("--choice", request->choice, items);
+    else
+        misused("single needs a delay for each train: --delays +3,+0 by minutes, or --choice 1,0 by index");
+    return 0;
 }
 
 int command_single(const struct request *request)
@@ -163,15 +187,13 @@ int command_single(const struct request *request)
     static struct study study;
     struct view view = {stdout, &study, {0}, 0, {0}, 0, 0};
     struct items items;
-    int status, by_delays = request->delays != NULL;
-    if (by_delays == (request->choice != NULL))
-        return misused(by_delays ? "--delays and --choice say the same thing; give one of them" : "single needs a delay for each train: --delays +3,+0 by minutes, or --choice 1,0 by index");
-    if (!read_items(by_delays ? request->delays : request->choice, by_delays, &items))
+    int status;
+    if (!read_list(request, &items))
         return MISUSED;
     status = judge_study(request, &study);
     if (status != ANSWERED)
         return status;
-    if ((request->train != NULL && !find_train(&study, request->train, &view.first)) || (by_delays && !find_delays(&study, &items)))
+    if ((request->train != NULL && !find_train(&study, request->train, &view.first)) || (request->delays != NULL && !find_delays(&study, &items)))
         return MISUSED;
     view.end = request->train != NULL ? view.first + 1 : study.level.trains;
     view.count = items.count;
