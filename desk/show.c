@@ -8,7 +8,6 @@
 #include "said.h"
 #include "study.h"
 #include "text.h"
-#include "viewed.h"
 
 enum { HEADER = 3 }; /* bytes of a field's tag and length */
 
