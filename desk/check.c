@@ -38,8 +38,8 @@ static void print_sound(unsigned rows)
     print_count(level->tracks, "track", "tracks");
     fputs(", ", stdout);
     print_count(level->trains, "train", "trains");
-    printf("; window 0 to %u; %" PRIu32 " combination%s of delays; %u of %u rows in use after the last minute\n", level->head.last, choices, choices == 1 ? "" : "s", rows,
-           level->head.room);
+    printf("; window 0 to %u; %" PRIu32 " combination%s of delays; %u of %u rows in use after the last minute\n", level->head.last, choices,
+           choices == 1 ? "" : "s", rows, level->head.room);
 }
 
 static int is_of_case(const struct table *table)

@@ -32,8 +32,10 @@ int judge_name(struct compiling *c, const struct word *word, const char *what, c
 {
     if (!is_name(word)) {
         expected(c->reader.error, word, "%s is expected after %s", what, said_word(keyword).text);
-        if (!ends(word) && word->length > 0)
-            add_words(c->reader.error, "; %s", is_keyword(word) ? "a keyword is a name only in double quotes" : "a name has a letter, or double quotes around it");
+        if (is_keyword(word))
+            add_words(c->reader.error, "; a keyword is a name only in double quotes");
+        else if (word->kind == PLAIN)
+            add_words(c->reader.error, "; a name has a letter, or double quotes around it");
         return 0;
     }
     if (word->length > NAME_BYTES)
@@ -55,7 +57,7 @@ void store_name(const struct word *word, char *name)
 
 int called_already(struct compiling *c, const struct word *word, const char *kind, unsigned line)
 {
-    return refuse(c->reader.error, word, "%s called %s stands in line %u already; names of one kind differ", kind, said_word(word).text, line);
+    return refuse(c->reader.error, word, "%s called %s stands in line %u already; give this one another name", kind, said_word(word).text, line);
 }
 
 int too_many(struct compiling *c, const struct word *word, const char *owner_has, unsigned most, const char *kind)
@@ -99,8 +101,10 @@ static const struct table *find_table(struct compiling *c, const struct word *wo
         return &c->known->tables.table[in_case];
     if (in_book < of_book.count)
         return &c->book->table[in_book];
-    no_such(c, word, "delay table", nearest != NULL ? nearest : nearest_name(&of_book, word));
-    if (of_book.count == 0)
+    if (nearest == NULL)
+        nearest = nearest_name(&of_book, word);
+    no_such(c, word, "delay table", nearest);
+    if (nearest == NULL && of_book.count == 0)
         add_words(c->reader.error, "; a book's tables are known only if the book is given");
     return NULL;
 }
@@ -118,8 +122,10 @@ int read_delays_of_train(struct compiling *c, const struct word *keyword, unsign
         return 0;
     *type = named->type;
     taken = table_of(c->known, c->book, named->type);
-    return taken == named || refuse(c->reader.error, &word, "%s has type %u, and so has `%s`, which goes first: this train would take `%s`; give one of the two another type",
-                                    said_word(&word).text, named->type, taken->name, taken->name);
+    if (taken != named)
+        return refuse(c->reader.error, &word, "%s has type %u, and so has `%s`, which goes first: this train would take `%s`; give one of the two another type",
+                      said_word(&word).text, named->type, taken->name, taken->name);
+    return 1;
 }
 
 /* ---- the parts of a line */

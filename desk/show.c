@@ -16,7 +16,8 @@ static struct text shown;
 
 /* ---- as text */
 
-/* Shows what was read; false, and said, if the text would not lead back to the same bytes. A book that calls another table as a case that is given as bytes does is one reason. */
+/* Shows what was read; false, and said, if that text would not lead back to the same bytes. So it is where a book has names that the case, given as bytes,
+ * gets for other types: D1 and so on. */
 static int show_whole_case(void)
 {
     static struct level again;
@@ -82,11 +83,11 @@ static void print_end(FILE *out, const struct bytes *bytes, const struct field *
     if (left == 0)
         fprintf(out, "ended at place %lu\n", (unsigned long)field->place);
     else if (left < HEADER)
-        fprintf(out, "breaks off at place %lu: field %u has %lu of the %d bytes of its tag and length\n", (unsigned long)field->place, field->number, (unsigned long)left,
-                (int)HEADER);
+        fprintf(out, "breaks off at place %lu: field %u has %lu of the %d bytes of its tag and length\n", (unsigned long)field->place, field->number,
+                (unsigned long)left, (int)HEADER);
     else
-        fprintf(out, "breaks off at place %lu: field %u, tag %u, says that its body has %u bytes, and %lu are there\n", (unsigned long)field->place, field->number, at[0],
-                at[1] * 256u + at[2], (unsigned long)(left - HEADER));
+        fprintf(out, "breaks off at place %lu: field %u, tag %u, says that its body has %u bytes, and %lu are there\n", (unsigned long)field->place,
+                field->number, at[0], at[1] * 256u + at[2], (unsigned long)(left - HEADER));
     if (bytes->length == HANDED)
         fprintf(out, "Only the first %d bytes of a file are looked at.\n", (int)HANDED);
 }

@@ -137,6 +137,11 @@ static struct table_widths table_widths(const struct tables *tables)
     return widths;
 }
 
+static void put_pair(struct text *text, const struct pair *pair, const struct table_widths *widths)
+{
+    put(text, "  %*s+%u %*u%%", (int)(widths->delay - number_width(pair->delay)), "", pair->delay, (int)widths->weight, pair->weight);
+}
+
 static void put_tables(struct text *text, const struct tables *tables)
 {
     struct table_widths widths = table_widths(tables);
@@ -146,12 +151,14 @@ static void put_tables(struct text *text, const struct tables *tables)
         put_name(text, table->name, widths.name);
         put(text, "  type %*u", (int)widths.type, table->type);
         for (unsigned k = 0; k < table->pairs; k++)
-            put(text, "  %*s+%u %*u%%", (int)(widths.delay - number_width(table->pair[k].delay)), "", table->pair[k].delay, (int)widths.weight, table->pair[k].weight);
+            put_pair(text, &table->pair[k], &widths);
         put(text, "\n");
     }
 }
 
 /* ---- trains */
+
+enum { DELAYS_WIDTH = sizeof "delays " - 1, TYPE_WIDTH = sizeof "type " - 1 };
 
 struct train_widths {
     unsigned name, delays, station, arrival;
@@ -177,7 +184,8 @@ static struct train_widths train_widths(const struct level *level, const struct 
     for (unsigned i = 0; i < level->trains; i++) {
         const struct train *train = &level->train[i];
         const char *delays = delays_name(level, book, train->type);
-        widths.delays = wider(widths.delays, delays != NULL ? (unsigned)strlen("delays ") + name_width(delays) : (unsigned)strlen("type ") + number_width(train->type));
+        unsigned own = delays != NULL ? DELAYS_WIDTH + name_width(delays) : TYPE_WIDTH + number_width(train->type);
+        widths.delays = wider(widths.delays, own);
         for (unsigned k = 0; k < train->stops; k++) {
             widths.station = wider(widths.station, name_width(level->station[train->stop[k].station].name));
             widths.arrival = wider(widths.arrival, number_width(train->stop[k].arrival));
@@ -206,9 +214,9 @@ static void put_trains(struct text *text, const struct level *level, const struc
         put_name(text, train->name, widths.name);
         if (delays != NULL) {
             put(text, "  delays ");
-            put_name(text, delays, widths.delays - (unsigned)strlen("delays "));
+            put_name(text, delays, widths.delays - DELAYS_WIDTH);
         } else
-            put(text, "  type %-*u", (int)(widths.delays - strlen("type ")), train->type);
+            put(text, "  type %-*u", (int)(widths.delays - TYPE_WIDTH), train->type);
         put(text, "  priority %u\n", train->priority);
         put_stops(text, level, train, &widths);
     }

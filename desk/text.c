@@ -33,12 +33,15 @@ static int times_follow(const struct compiling *c)
 static int no_statement(struct compiling *c, const struct word *word)
 {
     const char *nearest = nearest_statement(word);
-    if (c->is_book && nearest == NULL)
-        return expected(c->reader.error, word, "`delays` is expected");
     if (nearest != NULL)
         return refuse(c->reader.error, word, "no statement begins with %s; is it `%s`?", said_word(word).text, nearest);
+    if (word->kind == PLAIN && word->at[0] == '+')
+        return refuse(c->reader.error, word, "%s begins a line; the delays of a table stand on one line with its name", said_word(word).text);
     if (times_follow(c))
-        return refuse(c->reader.error, word, "%s looks like a stop, but it stands after no train; stops stand right after the line of their train", said_word(word).text);
+        return refuse(c->reader.error, word, "%s looks like a stop, but no train stands before it; stops come right after the line of their train",
+                      said_word(word).text);
+    if (c->is_book)
+        return expected(c->reader.error, word, "`delays` is expected");
     return expected(c->reader.error, word, "`title`, `window`, `safety`, `room`, `station`, `track`, `delays` or `train` is expected");
 }
 
@@ -72,9 +75,10 @@ static int judge_whole(struct compiling *c, const struct word *end)
     if (c->is_book)
         return 1;
     if (c->once.window == 0)
-        return refuse(c->reader.error, end, "the text ends without `window` and the last minute");
+        return refuse(c->reader.error, end, "`window` is missing: write `window` and the last minute");
     if (c->once.safety == 0)
-        return refuse(c->reader.error, end, "the text ends without `safety` and the minutes that an element stays blocked");
+        return refuse(c->reader.error, end,
+                      "`safety` is missing: write `safety` and the minutes that a station or track stays blocked after a train has left it");
     return 1;
 }
 

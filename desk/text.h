@@ -27,8 +27,8 @@ int compile_book(const struct text *text, struct tables *book, struct text_error
 void show_case(const struct level *level, const struct tables *book, struct text *text);
 void show_book(const struct tables *book, struct text *text);
 
-/* Whether what is shown says all that the text says, and no more: each statement has the same words, but for a type or a room that the text leaves out, and a train's
- * table, named or given by its type. If not, the error has the line and the word. The book is that of a case; a book's own text has an empty one. */
+/* Whether what is shown says all that the text says, and no more: each statement has the same words, but for a type or a room that the text leaves out, and
+ * for a train's table, which may be given by name or by type. If not, the error has the line and the word. A book's own text is compared with an empty book. */
 int shown_again(const struct text *text, const struct text *shown, const struct tables *book, struct text_error *error);
 
 #endif

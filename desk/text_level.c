@@ -63,7 +63,7 @@ int read_station(struct compiling *c, const struct word *keyword)
 {
     struct level *level = c->level;
     struct station *station = &level->station[level->stations];
-    struct parts parts = {1, {{"holds", "`holds` and a number", read_byte, &station->capacity, 0}}};
+    struct parts parts = {1, {{"holds", "`holds` with a number", read_byte, &station->capacity, 0}}};
     struct names names = station_names(level);
     struct word word;
     unsigned same;
@@ -95,16 +95,17 @@ static int settle_track(struct compiling *c, const struct word *keyword, const s
         return 1;
     if (name != NULL)
         return called_already(c, name, "a track", same->line);
-    return refuse(c->reader.error, keyword, "this track would be called `%s` by its ends, as that of line %u is; give it a name of its own", track->name, same->line);
+    return refuse(c->reader.error, keyword, "this track would be called `%s` by its ends, as that of line %u is; give it a name of its own", track->name,
+                  same->line);
 }
 
 int read_track(struct compiling *c, const struct word *keyword)
 {
     struct track *track = &c->level->track[c->level->tracks];
     struct parts parts = {3,
-                          {{"from", "`from` and a station", read_end, &track->from, 0},
-                           {"to", "`to` and a station", read_end, &track->to, 0},
-                           {"holds", "`holds` and a number", read_byte, &track->capacity, 0}}};
+                          {{"from", "`from` with a station", read_end, &track->from, 0},
+                           {"to", "`to` with a station", read_end, &track->to, 0},
+                           {"holds", "`holds` with a number", read_byte, &track->capacity, 0}}};
     struct word word, name;
     int has_name;
     if (c->level->tracks == MOST_TRACKS)

@@ -28,13 +28,13 @@ static int read_pair(struct compiling *c, const struct word *delay, struct table
     struct pair *pair = &table->pair[table->pairs];
     struct word weight;
     if (!is_delay(delay, &pair->delay))
-        return expected(c->reader.error, delay, "a delay of +0 to +255 minutes, such as `+3`, is expected");
+        return expected(c->reader.error, delay, "a delay (+0 to +255 minutes, such as `+3`) is expected");
     if (table->pairs == MOST_PAIRS)
         return too_many(c, delay, "a table has", MOST_PAIRS, "delays");
     if (!next(c, &weight))
         return 0;
     if (!is_weight(&weight, &pair->weight))
-        return expected(c->reader.error, &weight, "a weight of 0%% to 255%%, such as `40%%`, is expected after %s", said_word(delay).text);
+        return expected(c->reader.error, &weight, "a weight (0%% to 255%%, such as `40%%`) is expected after %s", said_word(delay).text);
     table->pairs++;
     return 1;
 }
@@ -49,10 +49,11 @@ static int settle_table(struct compiling *c, const struct word *name, int has_ty
     if (!has_type)
         table->type = tables->count > 1 ? table[-1].type + 1 : 1;
     if (table->type > MOST_BYTE)
-        return refuse(c->reader.error, name, "the table before this one has type %d, the last there is, so this one must say its type: `type` and a number", (int)MOST_BYTE);
+        return refuse(c->reader.error, name, "the table before this one has type %d, the last there is; write `type` and a number for this one",
+                      (int)MOST_BYTE);
     if (same < names.count && c->book->table[same].type != table->type)
-        return refuse(c->reader.error, name, "the book's table %s has type %u, and this one has type %u; give this one another name, or that type", said_word(name).text,
-                      c->book->table[same].type, table->type);
+        return refuse(c->reader.error, name, "the book's table %s has type %u, and this one has type %u; give this one another name, or that type",
+                      said_word(name).text, c->book->table[same].type, table->type);
     return 1;
 }
 
@@ -97,6 +98,14 @@ int is_times(const struct word *word, unsigned *arrival, unsigned *departure)
     return is_number(&first, MOST_WORD, arrival) && is_number(&second, MOST_WORD, departure);
 }
 
+static int no_times(struct compiling *c, const struct word *word, const struct word *station)
+{
+    expected(c->reader.error, word, "the minutes of arrival and departure, such as `2-3`, are expected after the station %s", said_word(station).text);
+    if (word->kind == PLAIN && word->at[0] >= '0' && word->at[0] <= '9')
+        add_words(c->reader.error, "; write two numbers of 0 to %d with only a hyphen between them, and no 0 before them", (int)MOST_WORD);
+    return 0;
+}
+
 int read_stop(struct compiling *c, const struct word *station)
 {
     struct train *train = c->train;
@@ -111,7 +120,7 @@ int read_stop(struct compiling *c, const struct word *station)
     if (!next(c, &times))
         return 0;
     if (!is_times(&times, &stop->arrival, &stop->departure))
-        return expected(c->reader.error, &times, "the minutes of arrival and departure, such as `2-3`, are expected after the station %s", said_word(station).text);
+        return no_times(c, &times, station);
     stop->line = station->line;
     train->stops++;
     return 1;
@@ -122,9 +131,9 @@ int read_train(struct compiling *c, const struct word *keyword)
     struct level *level = c->level;
     struct train *train = &level->train[level->trains];
     struct parts parts = {3,
-                          {{"delays", "`delays` and the name of a table", read_delays_of_train, &train->type, 0},
+                          {{"delays", "`delays` with the name of a table", read_delays_of_train, &train->type, 0},
                            {"type", NULL, read_byte, &train->type, 0},
-                           {"priority", "`priority` and a number", read_byte, &train->priority, 0}}};
+                           {"priority", "`priority` with a number", read_byte, &train->priority, 0}}};
     struct names names = train_names(level);
     struct word word;
     unsigned same;
