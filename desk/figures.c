@@ -161,8 +161,6 @@ static void print_punctuality(const struct view *view, const struct counted *cou
         fputs("  It is never on time.\n", view->out);
     else if (counted->on_time == view->whole)
         fputs("  It is always on time.\n", view->out);
-    else
-        fprintf(view->out, "  It is on time in %s of 100 choices.\n", share_text(counted->on_time, view->whole).text);
 }
 
 static void print_minutes(const struct view *view, unsigned k)
@@ -170,9 +168,9 @@ static void print_minutes(const struct view *view, unsigned k)
     static const unsigned of_hundred[] = {50, 80, 95};
     for (unsigned i = 0; i < sizeof of_hundred / sizeof *of_hundred; i++)
         if (minute_by(view->study, view->lent, k, of_hundred[i]) >= 0)
-            fprintf(view->out, "  %u of 100 choices have arrived by minute %s.\n", of_hundred[i], minute_text(view, k, of_hundred[i]).text);
+            fprintf(view->out, "  In %u of 100 choices it has arrived by minute %s.\n", of_hundred[i], minute_text(view, k, of_hundred[i]).text);
         else
-            fprintf(view->out, "  Fewer than %u of 100 choices arrive by the last minute, %u.\n", of_hundred[i], view->study->level.head.last);
+            fprintf(view->out, "  In fewer than %u of 100 choices it arrives by the last minute, %u.\n", of_hundred[i], view->study->level.head.last);
 }
 
 static int print_one(const struct view *view, unsigned k)
@@ -192,7 +190,7 @@ static int print_one(const struct view *view, unsigned k)
     print_share(view, "late", counted.late);
     print_share(view, "not arrived", counted.not_arrived);
     fprintf(view->out, "  %-13s  %7s%s\n", "mean lateness", mean_text(&counted).text,
-            counted.arrived > 0 ? " minutes, where it arrives" : ", as it never arrives");
+            counted.arrived > 0 ? " minutes, over the choices in which it arrives" : ", as it never arrives");
     print_minutes(view, k);
     return end_output(view->out, NULL);
 }

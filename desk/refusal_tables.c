@@ -3,7 +3,7 @@
 
 #include "refusal_words.h"
 
-enum { PAIR_BYTES = 2, WHOLE_TABLE = 100, TYPES_BYTES = MOST_TABLES * 5 + 1 };
+enum { PAIR_BYTES = 2, WHOLE_TABLE = 100, TYPE_BYTES = NAME_BYTES + 16, TYPES_BYTES = MOST_TABLES * TYPE_BYTES };
 
 /* ---- 10 */
 
@@ -74,42 +74,46 @@ void words_of_table(const struct fault *fault, struct words *words)
 
 /* ---- 11 */
 
-/* The types of a file's tables: ` 1, 2, 7`; false if the asked one is among them. */
-static int list_types(const struct bytes *bytes, unsigned asked, char *list)
+/* Whether a file has a table of the type. */
+static int has_type(const struct bytes *bytes, unsigned type)
 {
     const uint8_t *body;
-    *list = '\0';
-    for (unsigned i = 0; (body = nth_body(bytes, TAG_TABLE, i)) != NULL && i < MOST_TABLES; i++) {
-        sprintf(list + strlen(list), i == 0 ? " %u" : ", %u", body[0]);
-        if (body[0] == asked)
-            return 0;
-    }
-    return 1;
+    for (unsigned i = 0; (body = nth_body(bytes, TAG_TABLE, i)) != NULL; i++)
+        if (body[0] == type)
+            return 1;
+    return 0;
 }
 
-static void say_types(struct words *words, const char *file, const char *list)
+/* The types of a file's tables: `1 (Ore), 2 (Men)`; `named` has their names, and is null if there are none. */
+static void say_types(struct words *words, const char *file, const struct bytes *bytes, const struct tables *named)
 {
-    if (*list == '\0')
+    char types[TYPES_BYTES] = "";
+    unsigned count = 0;
+    const uint8_t *body;
+    for (; count < MOST_TABLES && (body = nth_body(bytes, TAG_TABLE, count)) != NULL; count++) {
+        sprintf(types + strlen(types), "%s%u", count == 0 ? "" : ", ", body[0]);
+        if (named != NULL && count < named->count)
+            sprintf(types + strlen(types), " (%.*s)", (int)NAME_BYTES, named->table[count].name);
+    }
+    if (count == 0)
         say_wrong(words, "the %s has no delay tables.", file);
     else
-        say_wrong(words, "the %s has %s%s.", file, strchr(list, ',') == NULL ? "a delay table of type" : "delay tables of types", list);
+        say_wrong(words, "the %s has %s %s.", file, count == 1 ? "a delay table of type" : "delay tables of types", types);
 }
 
 void words_of_type(const struct fault *fault, struct words *words)
 {
     const uint8_t *body = body_of(fault);
-    char of_case[TYPES_BYTES], of_book[TYPES_BYTES];
-    if (body == NULL || fault->field.tag != TAG_TRAIN)
-        return;
-    if (!list_types(&fault->study->case_bytes, body[1], of_case) || !list_types(&fault->study->book_bytes, body[1], of_book))
+    const struct study *study = fault->study;
+    if (body == NULL || fault->field.tag != TAG_TRAIN || has_type(&study->case_bytes, body[1]) || has_type(&study->book_bytes, body[1]))
         return;
     say_wrong(words, "%s has type %u, but no delay table has type %u.", train_called(fault, fault->field.nth).text, body[1], body[1]);
-    say_types(words, "case", of_case);
-    if (fault->study->book_name != NULL)
-        say_types(words, "book", of_book);
+    say_types(words, "case", &study->case_bytes, study->case_is_text ? &study->level.tables : NULL);
+    if (study->book_name != NULL)
+        say_types(words, "book", &study->book_bytes, study->book_is_text ? &study->book : NULL);
     else
         say_wrong(words, "no book was given.");
-    say_mend(words, fault->study->book_name != NULL ? "add a delay table of that type, or change the train's type."
+    say_mend(words, study->book_name != NULL ? "add a delay table of that type, or change the train's type."
                                                      : "give the book with --book, or add a delay table of that type, or change the train's type.");
 }
 

@@ -439,7 +439,7 @@ static const struct words_said texts_said[] = {
      "  where  early.txt, line 17: train Ore-2 (train 1, counted from 0)\n"
      "  bytes  field 6 of the compiled case, at byte 37: 04 00 0c 01 09 00 00 05 00 08 01 00 0b 00 0c\n"
      "  wrong  Train Ore-2 has type 9, but no delay table has type 9.\n"
-     "         The case has a delay table of type 1.\n"
+     "         The case has a delay table of type 1 (Ore).\n"
      "         No book was given.\n"
      "  mend   Give the book with --book, or add a delay table of that type, or change the train's type.\n"},
     {"7, the ends of another track", 7,
@@ -471,7 +471,7 @@ static const struct words_said calls_said[] = {
     {"16, train 2", 16,
      "  wrong  There is no train 2: the case has 2 trains.\n"
      "  mend   Ask for one of 0 (Ore-1) to 1 (Ore-2), or by name.\n"},
-    {"16, train 7", 16,
+    {"16, train 65535", 16,
      "  wrong  There is no train 65535: the case has 2 trains.\n"
      "  mend   Ask for one of 0 (Ore-1) to 1 (Ore-2), or by name.\n"},
 };
