@@ -190,7 +190,7 @@ static int print_one(const struct view *view, unsigned k)
     print_share(view, "late", counted.late);
     print_share(view, "not arrived", counted.not_arrived);
     fprintf(view->out, "  %-13s  %7s%s\n", "mean lateness", mean_text(&counted).text,
-            counted.arrived > 0 ? " minutes, over the choices in which it arrives" : ", as it never arrives");
+            counted.arrived > 0 ? " minutes, over the choices in which it arrives" : " (it never arrives)");
     print_minutes(view, k);
     return end_output(view->out, NULL);
 }

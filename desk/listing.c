@@ -92,7 +92,7 @@ static void print_train(const struct view *view, unsigned k)
 static void print_listing(const struct view *view)
 {
     print_title(view->out, view->level);
-    fprintf(view->out, "All choices of delays together weigh %" PRIu64 ". Late is in minutes after plan.\n", view->whole);
+    fprintf(view->out, "All choices of delays together weigh %" PRIu64 ".\nLate is in minutes after plan.\n", view->whole);
     if (view->longest > 0)
         fprintf(view->out, "The longest bar is %s of 100.\n", share_text(view->longest, view->whole).text);
     for (unsigned k = 0; k < view->level->trains; k++)

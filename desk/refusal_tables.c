@@ -113,8 +113,7 @@ void words_of_type(const struct fault *fault, struct words *words)
         say_types(words, "book", &study->book_bytes, study->book_is_text ? &study->book : NULL);
     else
         say_wrong(words, "no book was given.");
-    say_mend(words, study->book_name != NULL ? "add a delay table of that type, or change the train's type."
-                                                     : "give the book with --book, or add a delay table of that type, or change the train's type.");
+    say_mend(words, "%sadd a delay table of that type, or change the train's type.", study->book_name != NULL ? "" : "give the book with --book, or ");
 }
 
 /* ---- 12 */

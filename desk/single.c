@@ -160,7 +160,7 @@ static void print_choice(const struct view *view)
     const struct level *level = &view->study->level;
     uint64_t weight = choice_weight(view), whole = whole_weight(level);
     print_title(view->out, level);
-    fprintf(view->out, "This choice weighs %" PRIu64 " of %" PRIu64 ": %s of 100. Late is in minutes after plan.\n\n", weight, whole,
+    fprintf(view->out, "This choice weighs %" PRIu64 " of %" PRIu64 ": %s of 100.\nLate is in minutes after plan.\n\n", weight, whole,
             share_text(weight, whole).text);
     print_left(view->out, "train", train_columns(level));
     fputs("  delay  planned  arrives   late  at\n", view->out);
