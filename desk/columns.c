@@ -9,22 +9,11 @@ unsigned columns_of(const char *text)
     return columns;
 }
 
-static void print_spaces(FILE *out, const char *text, unsigned columns)
-{
-    for (unsigned taken = columns_of(text); taken < columns; taken++)
-        fputc(' ', out);
-}
-
 void print_left(FILE *out, const char *text, unsigned columns)
 {
     fputs(text, out);
-    print_spaces(out, text, columns);
-}
-
-void print_right(FILE *out, const char *text, unsigned columns)
-{
-    print_spaces(out, text, columns);
-    fputs(text, out);
+    for (unsigned taken = columns_of(text); taken < columns; taken++)
+        fputc(' ', out);
 }
 
 unsigned train_columns(const struct level *level)

@@ -10,9 +10,8 @@
 /* The columns that a text takes. */
 unsigned columns_of(const char *text);
 
-/* Prints a text at the left of so many columns, or after as many spaces as it lacks. */
+/* Prints a text, and spaces up to so many columns. */
 void print_left(FILE *out, const char *text, unsigned columns);
-void print_right(FILE *out, const char *text, unsigned columns);
 
 /* The columns of the longest name of a train, and at least those of the heading `train`. */
 unsigned train_columns(const struct level *level);
