@@ -302,27 +302,33 @@ static int put_label(FILE *out, struct plot *plot, struct words label, unsigned 
     return 1;
 }
 
+/* Prints a bar's label beside its top if no other bar stands below the label or between them. */
+static int put_beside(FILE *out, struct plot *plot, struct words label, unsigned own)
+{
+    struct box box = svg_box_of(label), bar = plot->bar[own], column = {box.left, box.top, bar.left + bar.width - box.left, plot->bottom - box.top};
+    if (label.anchor == FROM_HERE) {
+        column.left = bar.left;
+        column.width = box.left + box.width - bar.left;
+    }
+    return bar.height >= box.height && !meets_bar(plot, column, own) && put_label(out, plot, label, own);
+}
+
 /* A bar's label stands above it; if there is no room, in it if it is large enough, or before or after its top; otherwise it is left out. */
 static void label_bar(FILE *out, struct plot *plot, unsigned minute)
 {
     struct share_text share = share_text(weight_at(plot, minute), plot->whole);
     struct box bar = plot->bar[minute];
-    struct words label = within_plot((struct words){share.text, middle(plot, minute), bar.top - LINE_TO_LABEL, SVG_TINY, 0, AROUND_HERE, 0});
-    if (put_label(out, plot, label, minute))
+    struct words above = within_plot((struct words){share.text, middle(plot, minute), bar.top - LINE_TO_LABEL, SVG_TINY, 0, AROUND_HERE, 0}), within = above;
+    struct words before = {share.text, edge(plot, minute) - LINE_TO_LABEL, bar.top + SVG_TINY * 8 / 10, SVG_TINY, 0, UP_TO_HERE, 0}, after = before;
+    within.y = bar.top + SVG_TINY + LINE_TO_LABEL / 2;
+    after.x = bar.left + bar.width + LINE_TO_LABEL;
+    after.anchor = FROM_HERE;
+    if (put_label(out, plot, above, minute))
         return;
-    label.y = bar.top + SVG_TINY + 20;
-    if (bar.width >= svg_box_of(label).width && bar.height >= 2 * SVG_TINY && put_label(out, plot, label, minute))
+    if (bar.width >= svg_box_of(within).width && bar.height >= 2 * SVG_TINY && put_label(out, plot, within, minute))
         return;
-    if (bar.height < SVG_TINY)
-        return;
-    label.y = bar.top + SVG_TINY * 8 / 10;
-    label.x = bar.left - LINE_TO_LABEL - bar.width / 4;
-    label.anchor = UP_TO_HERE;
-    if (put_label(out, plot, label, minute))
-        return;
-    label.x = bar.left + bar.width + LINE_TO_LABEL;
-    label.anchor = FROM_HERE;
-    put_label(out, plot, label, minute);
+    if (!put_beside(out, plot, before, minute))
+        put_beside(out, plot, after, minute);
 }
 
 /* Labels of bars, the highest first. */
