@@ -8,25 +8,32 @@
 #include "said.h"
 
 static const struct command commands[] = {
-    {"check", "say whether a case is sound, and what it holds", "It judges the files as every run does, and then runs the whole window to see whether the room suffices.",
+    {"check", "say whether a case is sound, and what it holds",
+     "It judges the files as every run does, and then runs the whole window to see whether the room suffices.",
      TAKES_BOOK | TAKES_NAMES, command_check},
     {"listing", "print the minutes in which each train can arrive, with their weights",
-     "All choices of delays together weigh 100 to the power of the number of trains. The weight of a minute is the exact sum over the choices that bring the train\n"
-     "to its last station in that minute.",
+     "All choices of delays together weigh 100 to the power of the number of trains. The weight of a minute\n"
+     "is the exact sum over the choices that bring the train to its last station in that minute.",
      TAKES_BOOK | TAKES_NAMES | TAKES_BARS | TAKES_PLAIN, command_listing},
     {"figures", "print each train's punctuality: on time, late, not arrived, mean lateness",
-     "Shares are of 100 choices by weight. The columns 50, 80 and 95 have the first minute by which at least as many of 100 choices have arrived.",
+     "Shares are of 100 choices by weight. The columns 50, 80 and 95 have the first minute by which at least\n"
+     "as many of 100 choices have arrived; - means not by the last minute.",
      TAKES_BOOK | TAKES_NAMES | TAKES_TRAIN | TAKES_LIMIT, command_figures},
     {"run", "print the list of entries after a minute, and what has arrived by then",
-     "Without --stop it runs to the last minute. Each entry is a train that stands somewhere, or a block that it left, in the choices that its cover names.",
+     "Without --stop it runs to the last minute. Each row is a train that waits or stands somewhere, or a place that\n"
+     "it still blocks, in the choices that are named at the row's end; trains that are not named may have any delay.",
      TAKES_BOOK | TAKES_NAMES | TAKES_STOP, command_run},
-    {"single", "run one choice of delays, and print when each train arrives", "The choice is one delay for each train, in the order of the case: --delays by minutes, or --choice by index.",
+    {"single", "run one choice of delays, and print when each train arrives",
+     "The choice is one delay for each train, in the order of the case: --delays by minutes, or --choice by index.",
      TAKES_BOOK | TAKES_NAMES | TAKES_TRAIN | TAKES_DELAYS | TAKES_CHOICE, command_single},
     {"draw", "draw a picture (SVG) of each train's arrivals, or of the shift",
-     "Without --shift it draws each train's arrivals: the plan, the weight of each minute, what has not arrived, and the summed curve. With --shift it draws the planned\n"
-     "paths over stations and tracks by minute, and how much weight stands where.",
+     "Without --shift it draws each train's arrivals: the plan, the weight of each minute, what has not arrived, and\n"
+     "the summed curve. With --shift it draws the planned paths over stations and tracks by minute, and how many\n"
+     "trains stand where, on average of all choices.",
      TAKES_BOOK | TAKES_NAMES | TAKES_SHIFT | TAKES_OUTPUT, command_draw},
-    {"compile", "make the bytes of a case or a book from its text", "A text that can't be compiled is refused with line, column and what was expected there. Bytes that the reader refuses are not written.",
+    {"compile", "make the bytes of a case or a book from its text",
+     "A text that can't be compiled is refused with line, column and what was expected there. Bytes that the reader\n"
+     "refuses are not written.",
      TAKES_BOOK | TAKES_AS_BOOK | TAKES_OUTPUT, command_compile},
     {"show", "print a case or a book as text", "With --fields it prints the bytes field by field, of a damaged file too.",
      TAKES_BOOK | TAKES_NAMES | TAKES_AS_BOOK | TAKES_FIELDS | TAKES_OUTPUT, command_show},
@@ -42,21 +49,23 @@ struct word {
     size_t member; /* of struct request */
 };
 
+#define MEMBER(name) offsetof(struct request, name)
 static const struct word options[] = {
-    {"--book", "FILE", "the book: delay tables for types that have none in the case; text or bytes", TAKES_BOOK, WORDS, offsetof(struct request, book_name)},
-    {"--names", "TEXT", "the text that the case was compiled from, for the names of a case given as bytes", TAKES_NAMES, WORDS, offsetof(struct request, names)},
-    {"--output", "FILE", "write to this file, not to standard output; -o is short for it", TAKES_OUTPUT, WORDS, offsetof(struct request, output)},
-    {"--train", "TRAIN", "only this train, by its name or number", TAKES_TRAIN, WORDS, offsetof(struct request, train)},
-    {"--delays", "LIST", "a delay for each train in minutes, as +3,+0", TAKES_DELAYS, WORDS, offsetof(struct request, delays)},
-    {"--choice", "LIST", "an index for each train, counted from 0 in its table, as 1,0", TAKES_CHOICE, WORDS, offsetof(struct request, choice)},
-    {"--limit", "MINUTES", "how many minutes after plan still count as on time, 0 to 65535; 0 if left out", TAKES_LIMIT, NUMBER, offsetof(struct request, limit)},
-    {"--stop", "MINUTE", "the minute after which the run stops, 0 to 65535", TAKES_STOP, NUMBER, offsetof(struct request, stop)},
-    {"--bars", NULL, "draw a bar for each weight", TAKES_BARS, FLAG, offsetof(struct request, bars)},
-    {"--plain", NULL, "print exactly what the program `shift` prints, by numbers", TAKES_PLAIN, FLAG, offsetof(struct request, plain)},
-    {"--as-book", NULL, "the file is a book, not a case", TAKES_AS_BOOK, FLAG, offsetof(struct request, as_book)},
-    {"--fields", NULL, "print each field's place, tag, length and bytes", TAKES_FIELDS, FLAG, offsetof(struct request, fields)},
-    {"--shift", NULL, "draw the shift: planned paths, and how much weight stands where", TAKES_SHIFT, FLAG, offsetof(struct request, shift)},
+    {"--book", "FILE", "the book: delay tables for types that have none in the case; text or bytes", TAKES_BOOK, WORDS, MEMBER(book_name)},
+    {"--names", "TEXT", "the text that the case was compiled from, for the names of a case given as bytes", TAKES_NAMES, WORDS, MEMBER(names)},
+    {"--output", "FILE", "write to this file, not to standard output; -o is short for it", TAKES_OUTPUT, WORDS, MEMBER(output)},
+    {"--train", "TRAIN", "only this train, by its name or number", TAKES_TRAIN, WORDS, MEMBER(train)},
+    {"--delays", "LIST", "a delay for each train in minutes, as +3,+0", TAKES_DELAYS, WORDS, MEMBER(delays)},
+    {"--choice", "LIST", "an index for each train, counted from 0 in its table, as 1,0", TAKES_CHOICE, WORDS, MEMBER(choice)},
+    {"--limit", "MINUTES", "how many minutes after plan still count as on time, 0 to 65535; 0 if left out", TAKES_LIMIT, NUMBER, MEMBER(limit)},
+    {"--stop", "MINUTE", "the minute after which the run stops, 0 to 65535; the last minute if left out", TAKES_STOP, NUMBER, MEMBER(stop)},
+    {"--bars", NULL, "draw a bar for each weight", TAKES_BARS, FLAG, MEMBER(bars)},
+    {"--plain", NULL, "print exactly what the program `shift` prints, by numbers", TAKES_PLAIN, FLAG, MEMBER(plain)},
+    {"--as-book", NULL, "the file is a book, not a case", TAKES_AS_BOOK, FLAG, MEMBER(as_book)},
+    {"--fields", NULL, "print each field's place, tag, length and bytes", TAKES_FIELDS, FLAG, MEMBER(fields)},
+    {"--shift", NULL, "draw the shift: planned paths, and how many trains stand where", TAKES_SHIFT, FLAG, MEMBER(shift)},
 };
+#undef MEMBER
 
 #define COUNT(list) (sizeof(list) / sizeof *(list))
 
@@ -73,12 +82,13 @@ const struct command *find_command(const char *name)
 void print_help(FILE *out)
 {
     fputs("Use: lampreysong COMMAND FILE [OPTION..]\n\n"
-          "Carries all combinations of delays through a shift of a mine railway together, and says when each train can arrive.\n"
-          "FILE is a case: text (`man lampreysong` and docs/FORMATS.md show how to write one) or bytes; - is standard input.\n\nCommands:\n",
+          "Carries all combinations of delays through a shift of a mine railway together, and says when each train can\n"
+          "arrive. FILE is a case: text (`man lampreysong` shows how to write one) or bytes; - is standard input.\n\nCommands:\n",
           out);
     for (size_t i = 0; i < COUNT(commands); i++)
         fprintf(out, "  %-8s %s\n", commands[i].name, commands[i].does);
-    fputs("\n`lampreysong COMMAND --help` tells of a command's options, `lampreysong --refusals` what each refusal means, `lampreysong --version` which program this is.\n"
+    fputs("\n`lampreysong COMMAND --help` tells of a command's options, `lampreysong --refusals` what each refusal means,\n"
+          "`lampreysong --version` which program this is and what proved it.\n"
           "Exit status: 0 for an answer, 1 for a refused case, 2 for misuse or a file that can't be read or written.\n",
           out);
 }
@@ -92,7 +102,7 @@ static void print_option(FILE *out, const char *option, const char *value, const
 
 void print_command_help(FILE *out, const struct command *command)
 {
-    fprintf(out, "Use: lampreysong %s FILE [OPTION..]: %s\n\n%s\n\nOptions:\n", command->name, command->does, command->more);
+    fprintf(out, "Use: lampreysong %s FILE [OPTION..]\n\nTo %s.\n%s\n\nOptions:\n", command->name, command->does, command->more);
     for (size_t i = 0; i < COUNT(options); i++)
         if (command->takes & options[i].bit)
             print_option(out, options[i].option, options[i].value, options[i].help);
@@ -124,7 +134,7 @@ static int store(struct request *request, const struct word *word, const char *v
         return 1;
     }
     if (!read_number(value, 65535, &number)) {
-        misused("%s %s: a whole number of 0 to 65535 is expected, in digits and without leading zeros", word->option, value);
+        misused("%s takes a whole number of 0 to 65535, in digits and without leading zeros; `%s` is none", word->option, value);
         return 0;
     }
     *(int32_t *)member_of(request, word) = (int32_t)number;

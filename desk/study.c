@@ -13,17 +13,23 @@
 static struct input input;
 static struct text shown;
 
+/* A file's name for people. */
+static const char *called(const char *name)
+{
+    return strcmp(name, "-") == 0 ? "standard input" : name;
+}
+
 /* A text that is refused, with its line and column. */
 static int refused_text(const char *name, const struct text_error *error)
 {
-    fprintf(stderr, "%s:%u:%u: %s\n", strcmp(name, "-") == 0 ? "standard input" : name, error->line, error->column, error->words);
+    fprintf(stderr, "%s:%u:%u: %s\n", called(name), error->line, error->column, error->words);
     return REFUSED;
 }
 
 static int differs(const char *name, const struct text_error *error)
 {
-    fprintf(stderr, "lampreysong: %s, line %u: what the bytes say is not what the text says (%s). This is an error of this program; nothing was run.\n", name,
-            error->line, error->words);
+    fprintf(stderr, "%s:%u:%u: the bytes do not say what the text says: %s\n", called(name), error->line, error->column, error->words);
+    fputs("lampreysong: this is an error of this program, not of the text; nothing was run\n", stderr);
     return REFUSED;
 }
 
@@ -36,7 +42,7 @@ static void hand_on(struct bytes *bytes)
 
 static int too_long(const char *name)
 {
-    return misused("%s is text of more than %d bytes; no case needs as many", name, (int)MOST_TEXT);
+    return misused("%s is text of more than %d bytes; no case needs as many", called(name), (int)MOST_TEXT);
 }
 
 /* ---- the book */
@@ -229,6 +235,9 @@ int find_train(const struct study *study, const char *asked, unsigned *train)
         *train = (unsigned)number;
         return 1;
     }
-    misused("there is no train called %s; the trains are numbered from 0 and called as `lampreysong show` prints them", asked);
+    fprintf(stderr, "lampreysong: no train is called %s; there are", asked);
+    for (unsigned i = 0; i < study->level.trains; i++)
+        fprintf(stderr, "%s %s", i == 0 ? "" : ",", study->level.train[i].name);
+    fputs(", or by number 0, 1 ..\n", stderr);
     return 0;
 }

@@ -15,8 +15,8 @@ struct study {
     struct tables book;
 };
 
-/* Reads the case and the book of a request, and compiles what is text, shows it again and compares. ANSWERED if that went well; otherwise what is wrong has been said,
- * and it gives how the program ends. The bytes are not judged. */
+/* Reads the case and the book of a request, and compiles what is text, shows it again and compares. ANSWERED if that went well; otherwise what is wrong has
+ * been said, and it gives how the program ends. The bytes are not judged. */
 int read_study(const struct request *request, struct study *study);
 
 /* Reads and judges: REFUSED, and said in words, if the reader refuses the files. The levels are then whole and every name is there. */
