@@ -30,6 +30,18 @@ static size_t read_file(const char *name, uint8_t *bytes)
     return length;
 }
 
+/* A limit is a whole number of two bytes, in digits. */
+static uint16_t read_limit(const char *word)
+{
+    char *end;
+    unsigned long limit = strtoul(word, &end, 10);
+    if (*word < '0' || *word > '9' || *end != '\0' || limit > UINT16_MAX) {
+        fprintf(stderr, "desk: a limit is a whole number of 0 to 65535, and %s is none\n", word);
+        exit(2);
+    }
+    return (uint16_t)limit;
+}
+
 static void print_punctuality(struct lampreysong_train_figures f)
 {
     switch (f.punctuality) {
@@ -67,7 +79,7 @@ int main(int count, char **words)
     }
     case_length = read_file(words[1], case_bytes);
     book_length = count > 2 ? read_file(words[2], book) : 0;
-    limit = count > 3 ? (uint16_t)strtoul(words[3], NULL, 10) : 0;
+    limit = count > 3 ? read_limit(words[3]) : 0;
 
     listing = lampreysong_listing(case_bytes, case_length, book, book_length, rows, sizeof rows, weights, sizeof weights, text, sizeof text);
     if (listing.refusal != 0) {
