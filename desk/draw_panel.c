@@ -11,7 +11,7 @@ enum { PLOT_LEFT = 1450, PLOT_RIGHT = 15200, LEFT_TITLE = 330, RIGHT_TITLE = 162
 /* From top to bottom: the heading, one line or two, the plan's label, room for a bar's label, the plot, the minutes. */
 enum { HEADING = 380, SECOND_LINE = 330, PLAN_LABEL = 320, LABEL_ROOM = 330, MINUTES_BELOW = 350, GAP = 190 };
 
-enum { HEADING_ROOM = 11600, WIDEST_BAR = 700, LEAST_HEIGHT = 16, LEAST_WIDTH = 30, THIN_BAR = 60, TICK = 70, LEAST_TICKS = 750, LINE_TO_LABEL = 60 };
+enum { HEADING_ROOM = 11600, WIDEST_BAR = 700, LEAST_HEIGHT = 16, LEAST_WIDTH = 30, THIN_BAR = 60, TICK = 70, LEAST_TICKS = 750, LINE_TO_LABEL = 60, RING = 75 };
 
 enum { SCALE_FULL = 10000, NO_MINUTE = MOST_MINUTE + 1 }; /* a scale is in hundredths of 100 */
 
@@ -280,14 +280,12 @@ static int meets_curve(const struct plot *plot, struct box box)
     return right < box.top + box.height && left > box.top;
 }
 
-/* Whether a box meets the plan's line. The label of a wide bar in the planned minute may, since the line runs through the bar as well. */
+/* Whether a box meets the plan's line. The label of the bar in the planned minute may, since the line runs to the bar as well. */
 static int meets_plan(const struct plot *plot, struct box box, unsigned own)
 {
     unsigned planned = planned_arrival(plot->train);
     long x = middle(plot, planned);
-    if (own == planned && plot->bar[own].width >= THIN_BAR)
-        return 0;
-    return box.left - LINE_TO_LABEL / 2 < x && x < box.left + box.width + LINE_TO_LABEL / 2;
+    return own != planned && box.left - LINE_TO_LABEL / 2 < x && x < box.left + box.width + LINE_TO_LABEL / 2;
 }
 
 /* Prints a label if it is within the plot and meets no other, no line, and no bar but its own. */
@@ -348,27 +346,53 @@ static void label_bars(FILE *out, struct plot *plot)
     }
 }
 
-/* Where the curve passes 50, 80 and 95: a ring, and beside it the minute where there is room. */
+/* Where the curve passes a mark; false if it never does. */
+static int mark_place(const struct plot *plot, unsigned mark, struct box *ring, int *minute)
+{
+    *minute = minute_by(plot->panel->study, plot->panel->lent, plot->panel->train, mark);
+    if (*minute < 0)
+        return 0;
+    *ring = (struct box){edge(plot, (unsigned)*minute) - RING, height_of(plot, plot->whole / 100 * mark) - RING, 2 * RING, 2 * RING};
+    return 1;
+}
+
+/* The rings at 50, 80 and 95; no label meets them. */
 static void draw_marks(FILE *out, struct plot *plot)
 {
-    for (unsigned i = 0; i < MARKS; i++) {
-        int minute = minute_by(plot->panel->study, plot->panel->lent, plot->panel->train, marks[i]);
+    struct box ring;
+    int minute;
+    for (unsigned i = 0; i < MARKS && mark_place(plot, marks[i], &ring, &minute); i++) {
+        fprintf(out, "<circle cx=\"%ld\" cy=\"%ld\" %s/>\n", ring.left + RING, ring.top + RING, MARK_STYLE);
+        svg_take(&plot->taken, ring);
+    }
+}
+
+/* Beside each ring the minute, before it or after it, where there is room. */
+static void label_marks(FILE *out, struct plot *plot)
+{
+    struct box ring;
+    int minute;
+    for (unsigned i = 0; i < MARKS && mark_place(plot, marks[i], &ring, &minute); i++) {
         char text[24];
-        struct words label = {text, 0, 0, SVG_TINY - 20, 0, UP_TO_HERE, 0};
-        long x, y = height_of(plot, plot->whole / 100 * marks[i]);
-        if (minute < 0)
-            return;
-        x = edge(plot, (unsigned)minute);
-        fprintf(out, "<circle cx=\"%ld\" cy=\"%ld\" %s/>\n", x, y, MARK_STYLE);
+        struct words label = {text, ring.left - LINE_TO_LABEL / 2, ring.top + RING + LINE_TO_LABEL, SVG_TINY - 20, 0, UP_TO_HERE, 0};
         snprintf(text, sizeof text, "%u by %d", marks[i], minute);
-        label.x = x - 2 * LINE_TO_LABEL;
-        label.y = y + LINE_TO_LABEL;
         if (put_label(out, plot, label, NO_MINUTE))
             continue;
-        label.x = x + 2 * LINE_TO_LABEL;
+        label.x = ring.left + 2 * RING + LINE_TO_LABEL / 2;
         label.anchor = FROM_HERE;
         put_label(out, plot, label, NO_MINUTE);
     }
+}
+
+/* The plan's line runs over a wide bar, and behind a thin one, which it would hide. */
+static void draw_plan_and_bars(FILE *out, const struct plot *plot)
+{
+    int thin = plot->bar[plot->panel->axis.first].width < THIN_BAR;
+    if (thin)
+        draw_plan(out, plot);
+    draw_bars(out, plot);
+    if (!thin)
+        draw_plan(out, plot);
 }
 
 void draw_panel(FILE *out, const struct panel *panel)
@@ -377,11 +401,11 @@ void draw_panel(FILE *out, const struct panel *panel)
     lay_out(panel, &plot);
     draw_heading(out, &plot);
     draw_scales(out, &plot);
-    draw_bars(out, &plot);
-    draw_plan(out, &plot);
+    draw_plan_and_bars(out, &plot);
     draw_curve(out, &plot);
+    draw_marks(out, &plot);
     draw_minutes(out, &plot);
     draw_missing(out, &plot);
     label_bars(out, &plot);
-    draw_marks(out, &plot);
+    label_marks(out, &plot);
 }

@@ -8,7 +8,7 @@
 enum { MOST_NAMES = 5200, NAME_GAP = 150, HOLDS = 1250 };
 enum { TITLE_FOOT = 380, TELLS_FOOT = 800, LEGEND_TOP = 1030, LEGEND_ROW = 350, LEGEND_COLUMNS = 3, SAMPLE = 900, SAMPLE_HEIGHT = 230 };
 enum { MINUTES_ABOVE = 480, MINUTES_BELOW = 720, TICK = 70, LEAST_TICKS = 750 };
-enum { MOST_BAND = 1500, LEAST_SEEN = 10, MOST_LABEL = 2600, START = 55 };
+enum { MOST_BAND = 1500, LEAST_SEEN = 10, MOST_LABEL = 3400, START = 55 };
 
 #define STANDING_STYLE "fill=\"#8a8a8a\""
 #define BLOCKED_STYLE "fill=\"#dcdcdc\""
@@ -259,6 +259,15 @@ static void label_path(FILE *out, struct sheet *sheet, unsigned train)
     }
 }
 
+/* The dot where a train's line begins; no label meets it. */
+static void draw_start(FILE *out, struct sheet *sheet, unsigned train)
+{
+    const struct train *t = &sheet->study->level.train[train];
+    long x = minute_at(sheet, t->stop[0].arrival), y = lane(sheet, t->stop[0].station, train);
+    fprintf(out, "<circle cx=\"%ld\" cy=\"%ld\" r=\"%d\" fill=\"#000\"/>\n", x, y, (int)START);
+    svg_take(&sheet->taken, (struct box){x - START, y - START, 2 * START, 2 * START});
+}
+
 static void draw_paths(FILE *out, struct sheet *sheet)
 {
     const struct level *level = &sheet->study->level;
@@ -269,8 +278,8 @@ static void draw_paths(FILE *out, struct sheet *sheet)
         svg_escaped(out, level->train[k].name);
         fputs("</title>", out);
         put_path(out, sheet, k, PATH_STYLE);
-        fprintf(out, "<circle cx=\"%ld\" cy=\"%ld\" r=\"%d\" fill=\"#000\"/></g>\n", minute_at(sheet, level->train[k].stop[0].arrival),
-                lane(sheet, level->train[k].stop[0].station, k), (int)START);
+        draw_start(out, sheet, k);
+        fputs("</g>\n", out);
     }
     for (unsigned k = 0; k < level->trains; k++)
         label_path(out, sheet, k);
