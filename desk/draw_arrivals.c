@@ -3,10 +3,12 @@
 #include "draw_panel.h"
 #include "svg.h"
 
-enum { TITLE_FOOT = 380, TELLS_FOOT = 800, LEGEND_TOP = 1030, LEGEND_ROW = 360, LEGEND_ROWS = 3, SAMPLE = 700, SAMPLE_HEIGHT = 230, PANELS_TOP = 2380, FOOT = 330 };
-enum { MOST_PLOT = 3600, MARGIN_OF = 40 };
+/* From top to bottom: title, what it tells, legend, panels, the word under the last panel's minutes. */
+enum { TITLE_FOOT = 380, TELLS_FOOT = 800, LEGEND_TOP = 1030, LEGEND_ROW = 360, SAMPLE = 700, SAMPLE_HEIGHT = 230, PANELS_TOP = 2380, FOOT = 330 };
 
-/* The minutes from a little before the earliest planned arrival to a little after the last, planned or with weight; to the last minute if no train arrives at all. */
+enum { MOST_PLOT = 3600, PLOT_MIDDLE = 8325, MARGIN_OF = 40 }; /* one in so many minutes is margin */
+
+/* The minutes from a little before the earliest arrival to a little after the last, planned or with weight; to the last minute if no train arrives at all. */
 static struct axis shared_axis(const struct study *study, const struct lent *lent)
 {
     struct axis axis = {study->level.head.last, 0};
@@ -50,7 +52,8 @@ static void describe(FILE *out, const struct study *study, const struct lent *le
 /* The foot and the beginning of a legend's nth text; its sample stands before it. */
 static struct words legend_words(const char *text, unsigned row, long left)
 {
-    return (struct words){text, left + SAMPLE + 150, LEGEND_TOP + (long)row * LEGEND_ROW + SAMPLE_HEIGHT, SVG_SMALL, SVG_WIDTH / 2 - SAMPLE - 200, FROM_HERE, 0};
+    long foot = LEGEND_TOP + (long)row * LEGEND_ROW + SAMPLE_HEIGHT;
+    return (struct words){text, left + SAMPLE + 150, foot, SVG_SMALL, SVG_WIDTH / 2 - SAMPLE - 200, FROM_HERE, 0};
 }
 
 static void draw_legend(FILE *out, const struct study *study)
@@ -78,23 +81,23 @@ static void draw_legend(FILE *out, const struct study *study)
 void draw_arrivals(FILE *out, const struct study *study, const struct lent *lent)
 {
     const struct level *level = &study->level;
+    static const char tells[] = "In which minute each train can reach its last station. Shares are of 100 choices of delays, by weight.";
     struct panel panel = {study, lent, shared_axis(study, lent), 0, PANELS_TOP, MOST_PLOT, 0};
-    long most;
+    long most, height;
     for (unsigned k = 0; k < level->trains; k++)
         panel.long_names |= long_heading(level, &level->train[k]);
     most = (SVG_MOST_HEIGHT - PANELS_TOP - FOOT) / (long)level->trains - panel_frame(panel.long_names);
     panel.plot_height = most < MOST_PLOT ? most : MOST_PLOT;
-    most = PANELS_TOP + FOOT + (long)level->trains * (panel.plot_height + panel_frame(panel.long_names));
-    svg_begin(out, picture_title(study), most);
+    height = PANELS_TOP + FOOT + (long)level->trains * (panel.plot_height + panel_frame(panel.long_names));
+    svg_begin(out, picture_title(study), height);
     describe(out, study, lent);
     svg_words(out, (struct words){picture_title(study), 0, TITLE_FOOT, SVG_TITLE, SVG_WIDTH, FROM_HERE, 1});
-    svg_words(out, (struct words){"In which minute each train can reach its last station. Shares are of 100 choices of delays, by weight.", 0, TELLS_FOOT, SVG_NORMAL,
-                                  SVG_WIDTH, FROM_HERE, 0});
+    svg_words(out, (struct words){tells, 0, TELLS_FOOT, SVG_NORMAL, SVG_WIDTH, FROM_HERE, 0});
     draw_legend(out, study);
     for (; panel.train < level->trains; panel.train++) {
         draw_panel(out, &panel);
         panel.top += panel.plot_height + panel_frame(panel.long_names);
     }
-    svg_words(out, (struct words){"minute", 8325, most - 100, SVG_SMALL, 0, AROUND_HERE, 0});
+    svg_words(out, (struct words){"minute", PLOT_MIDDLE, height - 100, SVG_SMALL, 0, AROUND_HERE, 0});
     svg_end(out);
 }

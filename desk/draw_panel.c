@@ -11,7 +11,8 @@ enum { PLOT_LEFT = 1450, PLOT_RIGHT = 15200, LEFT_TITLE = 330, RIGHT_TITLE = 162
 /* From top to bottom: the heading, one line or two, the plan's label, room for a bar's label, the plot, the minutes. */
 enum { HEADING = 380, SECOND_LINE = 330, PLAN_LABEL = 320, LABEL_ROOM = 330, MINUTES_BELOW = 350, GAP = 190 };
 
-enum { HEADING_ROOM = 11600, WIDEST_BAR = 700, LEAST_HEIGHT = 16, LEAST_WIDTH = 30, THIN_BAR = 60, TICK = 70, LEAST_TICKS = 750, LINE_TO_LABEL = 60, RING = 75 };
+enum { HEADING_ROOM = 11600, WIDEST_BAR = 700, LEAST_HEIGHT = 16, LEAST_WIDTH = 30, THIN_BAR = 60 };
+enum { TICK = 70, LEAST_TICKS = 750, LINE_TO_LABEL = 60, RING = 75 };
 
 enum { SCALE_FULL = 10000, NO_MINUTE = MOST_MINUTE + 1 }; /* a scale is in hundredths of 100 */
 

@@ -107,7 +107,7 @@ static void lay_out(struct sheet *sheet)
 
 /* ---- bands */
 
-/* What is filled of a band in each minute: how many weights are full height, and their sums. */
+/* What fills a band: weights by minute, and the weight that is its full height. */
 struct filling {
     const uint64_t *first, *second; /* the second, if it is there, comes on top */
     uint64_t full;
@@ -339,6 +339,7 @@ static void describe(FILE *out, const struct sheet *sheet)
 
 void draw_shift(FILE *out, const struct study *study, const struct presence *presence)
 {
+    static const char tells[] = "Where trains are in each minute, on average of all choices of delays. A full band is as many trains as the place holds.";
     static struct sheet sheet;
     sheet.study = study;
     sheet.presence = presence;
@@ -349,8 +350,7 @@ void draw_shift(FILE *out, const struct study *study, const struct presence *pre
     svg_begin(out, picture_title(study), row_top(&sheet, rows_of(&sheet)) + MINUTES_BELOW);
     describe(out, &sheet);
     svg_words(out, (struct words){picture_title(study), 0, TITLE_FOOT, SVG_TITLE, SVG_WIDTH, FROM_HERE, 1});
-    svg_words(out, (struct words){"Where trains are in each minute, on average of all choices of delays. A full band is as many trains as the place holds.", 0, TELLS_FOOT,
-                                  SVG_NORMAL, SVG_WIDTH, FROM_HERE, 0});
+    svg_words(out, (struct words){tells, 0, TELLS_FOOT, SVG_NORMAL, SVG_WIDTH, FROM_HERE, 0});
     draw_legend(out, &study->level);
     draw_minutes(out, &sheet);
     draw_bands(out, &sheet);

@@ -173,7 +173,8 @@ void svg_begin(FILE *out, const char *title, long height)
     svg_escaped(out, title);
     fprintf(out,
             "</title>\n<defs><pattern id=\"hatched\" patternUnits=\"userSpaceOnUse\" width=\"90\" height=\"90\" patternTransform=\"rotate(45)\">"
-            "<rect x=\"0\" y=\"0\" width=\"90\" height=\"90\" fill=\"#fff\"/><rect x=\"0\" y=\"0\" width=\"30\" height=\"90\" fill=\"#333\"/></pattern></defs>\n"
+            "<rect x=\"0\" y=\"0\" width=\"90\" height=\"90\" fill=\"#fff\"/>"
+            "<rect x=\"0\" y=\"0\" width=\"30\" height=\"90\" fill=\"#333\"/></pattern></defs>\n"
             "<rect x=\"%d\" y=\"%d\" width=\"%ld\" height=\"%ld\" fill=\"#fff\"/>\n",
             -(int)SVG_MARGIN, -(int)SVG_MARGIN, wide, high);
 }

@@ -1,5 +1,5 @@
-/* The pictures: that they are well formed and within their bounds, that they show what the runs answer, and that names can't break them. Takes a file of pairs of
- * case and book (docs/FORMATS.md, "What the tools read"), or none. Prints 'N passed, M failed'. */
+/* The pictures: that they are well formed and within their bounds, that they show what the runs answer, and that names can't break them. Takes a file of pairs
+ * of case and book (docs/FORMATS.md, "What the tools read"), or none. Prints 'N passed, M failed'. */
 #include <stdio.h>
 #include <stdlib.h>
 #include <string.h>
@@ -347,6 +347,45 @@ static void shift_arrivals(void)
     expect(draw_one(0, second_picture) && strcmp(picture, second_picture) == 0, "the same case gives the same bytes");
 }
 
+/* The height of the bar that has this title. */
+static long bar_height(const char *title)
+{
+    const char *bar = strstr(picture, title);
+    long height = 0;
+    return bar != NULL && attribute(strstr(bar, "<rect"), " height=\"", &height) ? height : 0;
+}
+
+static int about(long a, long b)
+{
+    return a - b <= 1 && b - a <= 1;
+}
+
+/* Scales: 0 to 60 for the first train, 0 to 80 for the second. */
+static void shift_heights(void)
+{
+    long full, top;
+    char end[32];
+    take_study(shift_example, sizeof shift_example);
+    expect(draws_well(0), "the shift example's arrivals, to be measured");
+    full = bar_height("<title>minute 6: ");
+    expect(full > 1000 && about(bar_height("<title>minute 9: "), full * 40 / 60), "the first train's bars are as high as their weights say");
+    expect(about(bar_height("<title>minute 11: "), full * 36 / 80) && about(bar_height("<title>minute 14: "), full * 64 / 80), "so are the second's");
+    expect(attribute(strstr(strstr(picture, "<title>minute 6: "), "<rect"), " y=\"", &top) && sprintf(end, "V%ldH", top) > 0 && times(end) == 1,
+           "the bar of 60 to the scale of 60 is as high as the curve at its end");
+}
+
+/* The first area is that of the waiting band, a train high: 2400 of 10000 wait from minute 5 to 7. */
+static void shift_areas(void)
+{
+    long left, foot, from, top, until, back;
+    const char *area = strstr(picture, "<path d=\"M");
+    while (area != NULL && strcspn(area, "Z") > strcspn(area, ">")) /* an area ends with Z, a line does not */
+        area = strstr(area + 1, "<path d=\"M");
+    expect(area != NULL && sscanf(area, "<path d=\"M%ld %ldH%ldV%ldH%ldV%ldH", &left, &foot, &from, &top, &until, &back) == 6, "an area of those that wait");
+    expect(area != NULL && foot - top == 1500 * 24 / 100 && back == foot, "it is as high as their weight says");
+    expect(area != NULL && (from - left) * 8 - (until - left) * 5 <= 8 && (until - left) * 5 - (from - left) * 8 <= 8, "it begins and ends where they do");
+}
+
 static void shift_presence(void)
 {
     static const unsigned station = 0, track = MOST_STATIONS;
@@ -357,8 +396,9 @@ static void shift_presence(void)
     expect(times(" as planned</text>") == 2 && shows(">T0</text>") && shows(">T1</text>"), "the trains in the legend and at their lines");
     expect(presence.standing[station][2] == 6000 && presence.standing[station][1] == 0, "the first train stands where it is planned if it is not late");
     expect(presence.waiting[5] == 2400 && presence.waiting[8] == 0, "the second waits while the first stands there late");
-    expect(presence.standing[track][3] == 6000 && presence.blocked[station][3] == 6000 && presence.blocked[station][4] == 6000, "a block lasts the safety time");
+    expect(presence.standing[track][3] == 6000 && presence.blocked[station][3] == 6000 && presence.blocked[station][4] == 6000, "a block lasts its time");
     expect(presence.gone[20] == 20000 && presence.coming[0] == 20000, "all come, and all go");
+    shift_areas();
 }
 
 static void titles(void)
@@ -420,7 +460,7 @@ static void seven_trains(void)
     draw_both("seven trains' arrivals", "seven trains' shift");
     expect(times(">not arrived ") == MOST_TRAINS && shows(": &lt;0.01 of 100</title>"), "seven panels, and no weight that is there as 0.00");
     study.level.head.room = MOST_TRAINS;
-    expect(changed() == 0 && gather_presence(&study, &lent, &presence).refusal == LAMPREYSONG_NO_ROOM, "too small a room is refused before anything is drawn");
+    expect(changed() == 0 && gather_presence(&study, &lent, &presence).refusal == LAMPREYSONG_NO_ROOM, "too small a room is refused before it is drawn");
 }
 
 static void bands(void)
@@ -486,6 +526,7 @@ static void pairs(const char *name)
 int main(int count, char **words)
 {
     shift_arrivals();
+    shift_heights();
     shift_presence();
     titles();
     names();
