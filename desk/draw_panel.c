@@ -1,8 +1,6 @@
 /* A panel: plan, bars, curve, marks and what has not arrived. Bars are drawn to the left scale, the curve and what has not arrived to the right. */
 #include "draw_panel.h"
 
-#include <string.h>
-
 #include "svg.h"
 
 /* From left to right: the left scale, the plot, the right scale, the field of what has not arrived. */

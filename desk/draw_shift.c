@@ -1,6 +1,4 @@
 /* The picture of the shift: a band for each place over the minutes, how many trains stand there on average, and the planned paths. */
-#include <string.h>
-
 #include "draw.h"
 #include "svg.h"
 
@@ -11,7 +9,7 @@ enum { MINUTES_ABOVE = 480, MINUTES_BELOW = 720, TICK = 70, LEAST_TICKS = 750 };
 enum { MOST_BAND = 1500, LEAST_SEEN = 10, MOST_LABEL = 3400, START = 55 };
 
 #define STANDING_STYLE "fill=\"#8a8a8a\""
-#define BLOCKED_STYLE "fill=\"#dcdcdc\""
+#define BLOCKED_STYLE "fill=\"#d2d2d2\""
 #define CASING_STYLE "fill=\"none\" stroke=\"#fff\" stroke-width=\"80\" stroke-opacity=\"0.8\" stroke-linejoin=\"round\""
 #define PATH_STYLE "fill=\"none\" stroke=\"#000\" stroke-width=\"32\" stroke-linejoin=\"round\""
 
@@ -227,7 +225,8 @@ static void put_drive(FILE *out, const struct sheet *sheet, unsigned train, unsi
     fprintf(out, "V%ld", lane(sheet, to, train));
 }
 
-static void put_path(FILE *out, const struct sheet *sheet, unsigned train, const char *style)
+/* Begins the line of a train's plan; how it is drawn comes after. */
+static void put_path(FILE *out, const struct sheet *sheet, unsigned train)
 {
     const struct level *level = &sheet->study->level;
     const struct train *t = &level->train[train];
@@ -237,7 +236,7 @@ static void put_path(FILE *out, const struct sheet *sheet, unsigned train, const
         if (i + 1 < t->stops)
             put_drive(out, sheet, train, 2 * i + 1);
     }
-    fprintf(out, "\" %s%s/>\n", style, strcmp(style, PATH_STYLE) == 0 ? dashes[train] : "");
+    fputs("\" ", out);
 }
 
 /* The train's name before the begin of its line, or after it above or below, where there is room. */
@@ -271,13 +270,16 @@ static void draw_start(FILE *out, struct sheet *sheet, unsigned train)
 static void draw_paths(FILE *out, struct sheet *sheet)
 {
     const struct level *level = &sheet->study->level;
-    for (unsigned k = 0; k < level->trains; k++)
-        put_path(out, sheet, k, CASING_STYLE);
+    for (unsigned k = 0; k < level->trains; k++) {
+        put_path(out, sheet, k);
+        fprintf(out, "%s/>\n", CASING_STYLE);
+    }
     for (unsigned k = 0; k < level->trains; k++) {
         fputs("<g><title>", out);
         svg_escaped(out, level->train[k].name);
         fputs("</title>", out);
-        put_path(out, sheet, k, PATH_STYLE);
+        put_path(out, sheet, k);
+        fprintf(out, "%s%s/>\n", PATH_STYLE, dashes[k]);
         draw_start(out, sheet, k);
         fputs("</g>\n", out);
     }

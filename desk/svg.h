@@ -2,7 +2,6 @@
 #ifndef DESK_SVG_H
 #define DESK_SVG_H
 
-#include <stddef.h>
 #include <stdio.h>
 
 /* What is drawn on has a margin of its own around it, and with it still fits A4. */
