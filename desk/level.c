@@ -36,11 +36,22 @@ const char *last_station(const struct level *level, const struct train *train)
     return level->station[train->stop[train->stops - 1].station].name;
 }
 
+/* How many bytes of a name fit into a room, cut between letters of UTF-8. */
+static size_t bytes_that_fit(const char *name, size_t room)
+{
+    size_t length = strlen(name);
+    if (length <= room)
+        return length;
+    while (room > 0 && ((unsigned char)name[room] & 0xC0) == 0x80)
+        room--;
+    return room;
+}
+
 void name_by_ends(const struct level *level, struct track *track)
 {
     const char *from = level->station[track->from].name, *to = level->station[track->to].name;
-    size_t begun = strlen(from) < NAME_BYTES ? strlen(from) : NAME_BYTES - 1;
-    size_t rest = strlen(to) < NAME_BYTES - begun ? strlen(to) : NAME_BYTES - begun - 1;
+    size_t begun = bytes_that_fit(from, NAME_BYTES - 1);
+    size_t rest = bytes_that_fit(to, NAME_BYTES - begun - 1);
     memcpy(track->name, from, begun);
     track->name[begun] = '-';
     memcpy(track->name + begun + 1, to, rest);
