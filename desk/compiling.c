@@ -105,7 +105,7 @@ static const struct table *find_table(struct compiling *c, const struct word *wo
         nearest = nearest_name(&of_book, word);
     no_such(c, word, "delay table", nearest);
     if (nearest == NULL && of_book.count == 0)
-        add_words(c->reader.error, "; a book's tables are known only if the book is given");
+        add_words(c->reader.error, "; a table of a book is known only if --book gives the book");
     return NULL;
 }
 

@@ -716,6 +716,7 @@ static void spoiled_statements(void)
                                              {"Incline", "       "},
                                              {"delays Men    priority 0", "delays Ore    priority 0"},
                                              {"delays Men    priority 0", "type 2        priority 0"},
+                                             {"delays Men    priority 0", "delays Men type 2 priority 0"},
                                              {"priority 2", "priority 1"},
                                              {"+1 16%", "+1 17%"},
                                              {"+1 16%  +4  4%", "+4  4%  +1 16%"},
@@ -737,6 +738,56 @@ static void spoiled_statements(void)
         expect(there && shown_again(&example, &shown, &no_book, &error), "the example is shown", i);
         expect(!shown_again(&example, &damaged, &no_book, &error), "a spoiled statement is seen", i);
     }
+}
+
+static void set_text(struct text *text, const char *words)
+{
+    text->length = 0;
+    add(text, words);
+}
+
+/* What a text leaves out may be shown in one way only, and a train's type only as the table that has it. */
+static void spoiled_left_out(void)
+{
+    static const struct tables book = {1, {{"Coal", 9, 1, {{0, 100}}, 0}}};
+    static const struct {
+        const char *text, *shown;
+        int seen;
+    } tried[] = {{"window 9", "window 9\nroom 1024", 1},
+                 {"window 9", "window 9\nroom 1023", 0},
+                 {"window 9", "window 9\nsafety 0", 0},
+                 {"delays Ore\ndelays Men", "delays Ore type 1\ndelays Men type 2", 1},
+                 {"delays Ore\ndelays Men", "delays Ore type 1\ndelays Men type 3", 0},
+                 {"delays Ore\ndelays Men", "delays Ore type 2\ndelays Men type 3", 0},
+                 {"delays Ore type 3\ntrain A type 3", "delays Ore type 3\ntrain A delays Ore", 1},
+                 {"delays Ore type 3\ntrain A type 4", "delays Ore type 3\ntrain A delays Ore", 0},
+                 {"train A type 9", "train A delays Coal", 1},
+                 {"train A type 8", "train A delays Coal", 0},
+                 {"train A type 9", "train A delays Ore", 0},
+                 {"train A delays Coal", "train A type 9", 0},
+                 {"track A-B from A to B", "track from A to B", 1},
+                 {"track A-C from A to B", "track from A to B", 0},
+                 {"track from A to B", "track A-B from A to B", 0},
+                 {"title a \"b c\" # d", "title a \"b c\"", 1},
+                 {"title a \"b c\"", "title a b c", 0}};
+    for (unsigned i = 0; i < sizeof tried / sizeof *tried; i++) {
+        set_text(&damaged, tried[i].text);
+        set_text(&shown, tried[i].shown);
+        expect(shown_again(&damaged, &shown, &book, &error) == tried[i].seen, "what a text leaves out is shown in one way", i);
+    }
+}
+
+/* A train whose table's name would lead to another table is shown by its type. */
+static void shown_by_type(void)
+{
+    static const struct tables book = {1, {{"D1", 5, 1, {{0, 100}}, 0}}};
+    static struct level level;
+    set_text(&damaged, "window 9\nsafety 0\ndelays D1 +0 100%\ntrain A type 1 priority 0\ntrain B type 5 priority 0\n");
+    expect(compile_case(&damaged, &no_book, &level, &error), "a case with types is compiled", 0);
+    show_case(&level, &book, &shown);
+    set_text(&damaged, "window  9\nsafety  0\nroom    1024\n\ndelays D1  type 1  +0 100%\n\n"
+                       "train A  delays D1  priority 0\n\ntrain B  type 5     priority 0\n");
+    expect(same_text(&shown, &damaged), "a train whose table's name leads to another is shown by its type", 0);
 }
 
 /* ---- errors */
@@ -843,6 +894,8 @@ int main(int count, char **words)
     damaged_examples();
     spoiled_words();
     spoiled_statements();
+    spoiled_left_out();
+    shown_by_type();
     if (count > 1)
         pairs(words[1]);
     printf("%u passed, %u failed\n", passed, failed);

@@ -110,7 +110,7 @@ static const struct wrong_text {
     {"window 9\nsafety 0\nstation Face holds 1\nstation Tip holds 1\ndelays Ore +0 100%\ntrain A delays Oer priority 1\n",
      6, 16, "no delay table is called `Oer`; is it `Ore`?", A_CASE},
     {"window 9\nsafety 0\nstation Face holds 1\nstation Tip holds 1\ntrain A delays Quick priority 1\n",
-     5, 16, "no delay table is called `Quick`; a book's tables are known only if the book is given", A_CASE},
+     5, 16, "no delay table is called `Quick`; a table of a book is known only if --book gives the book", A_CASE},
     {"window 9\nsafety 0\nstation Face holds 1\nstation Tip holds 1\ntrain A delays 3 priority 1\n",
      5, 16, "the name of a delay table is expected after `delays`, and `3` stands here; a name has a letter, or double quotes around it", A_CASE},
     {"window 9\nsafety 0\nstation Face holds 1\nstation Tip holds 1\ndelays Ore +0 100%\n"
