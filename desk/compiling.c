@@ -68,8 +68,10 @@ int too_many(struct compiling *c, const struct word *word, const char *owner_has
 static int no_such(struct compiling *c, const struct word *word, const char *kind, const char *nearest)
 {
     refuse(c->reader.error, word, "no %s is called %s", kind, said_word(word).text);
-    if (nearest != NULL)
-        add_words(c->reader.error, "; is it `%s`?", nearest);
+    if (nearest != NULL) {
+        struct word meant = {needs_quotes(nearest) ? QUOTED : PLAIN, nearest, strlen(nearest), 0, 0};
+        add_words(c->reader.error, "; is it %s?", said_word(&meant).text);
+    }
     return 0;
 }
 
