@@ -16,28 +16,27 @@ static int see_text(const struct bytes *bytes, int is_text)
 {
     if (is_text)
         return ANSWERED;
-    return misused(bytes->length == 0 ? "%s is empty: there is no text to compile" : "%s is bytes already: only text is compiled", study.case_name);
+    if (bytes->length == 0)
+        return misused("%s is empty: there is no text to compile", study.case_name);
+    if (bytes->at[0] < TAG_HEAD || bytes->at[0] > TAG_TABLE)
+        return misused("%s is no text: it has control characters, or is not saved as UTF-8", study.case_name);
+    return misused("%s is bytes already: only text is compiled", study.case_name);
 }
 
-static int judge_case(const struct request *request)
+/* Reads the text, compiles it and has its bytes judged. */
+static int judge_text(const struct request *request)
 {
     struct lampreysong_answer a;
-    int status = read_study(request, &study);
+    int status = request->as_book ? read_book_alone(request, &study) : read_study(request, &study);
     if (status == ANSWERED)
-        status = see_text(&study.case_bytes, study.case_is_text);
+        status = request->as_book ? see_text(&study.book_bytes, study.book_is_text) : see_text(&study.case_bytes, study.case_is_text);
     if (status != ANSWERED)
         return status;
-    a = ask_files(&study);
+    a = request->as_book ? ask_book(&study) : ask_files(&study);
     if (a.refusal == 0)
         return ANSWERED;
     say_refusal(stderr, &study, (struct refusal){a.refusal, a.file, a.place});
     return REFUSED;
-}
-
-static int judge_book(const struct request *request)
-{
-    int status = judge_book_alone(request, &study);
-    return status == ANSWERED ? see_text(&study.book_bytes, study.book_is_text) : status;
 }
 
 int command_compile(const struct request *request)
@@ -47,7 +46,7 @@ int command_compile(const struct request *request)
     int status;
     if (request->output != NULL && strcmp(request->output, "-") != 0 && strcmp(request->output, request->case_name) == 0)
         return misused("the bytes can't be written to %s, which is the text itself", request->output);
-    status = request->as_book ? judge_book(request) : judge_case(request);
+    status = judge_text(request);
     if (status != ANSWERED)
         return status;
     out = begin_output(request->output);

@@ -29,7 +29,7 @@ static int show_whole_case(void)
         if (same_bytes(&bytes, &study.case_bytes))
             return 1;
     }
-    misused("%s can't be shown as a text that leads back to its bytes: %s", study.case_name, error.words);
+    misused("%s can't be shown as a text that leads back to its bytes (%s); leave out --book, or give the names by --names", study.case_name, error.words);
     return 0;
 }
 
