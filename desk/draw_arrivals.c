@@ -1,7 +1,7 @@
 /* The picture of arrivals: a title, a legend, and a panel for each train over the same minutes. */
 #include "draw.h"
 #include "draw_panel.h"
-#include "svg.h"
+#include "draw_svg.h"
 
 /* From top to bottom: title, what it tells, legend, panels, the word under the last panel's minutes. */
 enum { TITLE_FOOT = 380, TELLS_FOOT = 800, LEGEND_TOP = 1030, LEGEND_ROW = 360, SAMPLE = 700, SAMPLE_HEIGHT = 230, PANELS_TOP = 2380, FOOT = 330 };

@@ -1,7 +1,7 @@
 /* A panel: plan, bars, curve, marks and what has not arrived. Bars are drawn to the left scale, the curve and what has not arrived to the right. */
 #include "draw_panel.h"
 
-#include "svg.h"
+#include "draw_svg.h"
 
 /* From left to right: the left scale, the plot, the right scale, the field of what has not arrived. */
 enum { PLOT_LEFT = 1450, PLOT_RIGHT = 15200, LEFT_TITLE = 330, RIGHT_TITLE = 16250, FIELD_LEFT = 16650, FIELD_MIDDLE = 17800 };

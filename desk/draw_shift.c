@@ -1,6 +1,6 @@
 /* The picture of the shift: a band for each place over the minutes, how many trains stand there on average, and the planned paths. */
 #include "draw.h"
-#include "svg.h"
+#include "draw_svg.h"
 
 /* From left to right: names, the plot, what a place holds. From top to bottom: title, what it tells, legend, the plot with minutes above and below. */
 enum { MOST_NAMES = 5200, NAME_GAP = 150, HOLDS = 1250 };

@@ -23,7 +23,7 @@ typedef char name_text[NAME_BYTES + 1];
 /* `line` is the line of the text that says it, counted from 1; 0 if it was read from bytes. */
 struct head {
     unsigned last, safety, room;
-    unsigned line;
+    unsigned line, safety_line, room_line; /* of the window, the safety time and the room; 0 also for a room that is left out */
 };
 
 struct station {

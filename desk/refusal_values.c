@@ -8,6 +8,7 @@ enum { STOP_BYTES = 5, MOST_SAFETY = 30 };
 struct range {
     const char *what, *unit;
     unsigned found, least, most;
+    unsigned line; /* of the text, 0 if there is none */
 };
 
 /* Says that a value is out of its range, if it is. */
@@ -17,18 +18,20 @@ static int out_of_range(struct words *words, const struct range *range)
         return 0;
     say_wrong(words, "the %s is %u%s; it can be %u to %u.", range->what, range->found, range->unit, range->least, range->most);
     say_mend(words, "choose a number from %u to %u.", range->least, range->most);
+    words->line = range->line;
     return 1;
 }
 
 static void words_of_head(const struct fault *fault, const uint8_t *body, struct words *words)
 {
-    const struct range ranges[] = {{"last minute", "", number_at(body), 1, MOST_MINUTE},
-                                   {"safety time", " minutes", body[2], 0, MOST_SAFETY},
-                                   {"room", " rows", number_at(body + 3), 1, MOST_ROOM}};
-    if (out_of_range(words, &ranges[0]))
-        words->line = text_level(fault) != NULL ? text_level(fault)->head.line : 0; /* of the window */
-    else if (!out_of_range(words, &ranges[1]))
-        out_of_range(words, &ranges[2]);
+    const struct level *level = text_level(fault);
+    const struct head head = level != NULL ? level->head : (struct head){0};
+    const struct range ranges[] = {{"last minute", "", number_at(body), 1, MOST_MINUTE, head.line},
+                                   {"safety time", " minutes", body[2], 0, MOST_SAFETY, head.safety_line},
+                                   {"room", " rows", number_at(body + 3), 1, MOST_ROOM, head.room_line}};
+    for (unsigned i = 0; i < sizeof ranges / sizeof *ranges; i++)
+        if (out_of_range(words, &ranges[i]))
+            return;
 }
 
 void words_of_range(const struct fault *fault, struct words *words)

@@ -3,7 +3,7 @@
 
 #include <string.h>
 
-#include "compiling.h"
+#include "text_compiling.h"
 
 static const struct statement {
     const char *keyword;
@@ -30,6 +30,15 @@ static int times_follow(const struct compiling *c)
     return next_word(&ahead, &word) && is_times(&word, &arrival, &departure);
 }
 
+/* Whether the word is bytes in hex, as `01` or `0005`. */
+static int is_hex(const struct word *word)
+{
+    for (size_t i = 0; i < word->length; i++)
+        if (strchr("0123456789abcdefABCDEF", word->at[i]) == NULL)
+            return 0;
+    return word->kind == PLAIN && word->length > 0 && word->length % 2 == 0;
+}
+
 static int no_statement(struct compiling *c, const struct word *word)
 {
     const char *nearest = nearest_statement(word);
@@ -39,6 +48,9 @@ static int no_statement(struct compiling *c, const struct word *word)
         return refuse(c->reader.error, word, "%s begins a line; the delays of a table stand on one line with its name", said_word(word).text);
     if (times_follow(c))
         return refuse(c->reader.error, word, "%s looks like a stop, but no train stands before it; stops come right after the line of their train",
+                      said_word(word).text);
+    if (is_hex(word) && c->level->stations == 0)
+        return refuse(c->reader.error, word, "%s looks like bytes written in hex; a case is a text of statements, or the bytes themselves",
                       said_word(word).text);
     if (c->is_book)
         return expected(c->reader.error, word, "`delays` is expected");

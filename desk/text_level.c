@@ -1,7 +1,7 @@
 /* The statements of a level: its window and what else it has once, stations and tracks. */
 #include <string.h>
 
-#include "compiling.h"
+#include "text_compiling.h"
 
 /* ---- statements that a case has once */
 
@@ -28,11 +28,13 @@ int read_window(struct compiling *c, const struct word *keyword)
 
 int read_safety(struct compiling *c, const struct word *keyword)
 {
+    c->level->head.safety_line = keyword->line;
     return only_once(c, keyword, &c->once.safety) && read_byte(c, keyword, &c->level->head.safety) && read_line_end(c);
 }
 
 int read_room(struct compiling *c, const struct word *keyword)
 {
+    c->level->head.room_line = keyword->line;
     return only_once(c, keyword, &c->once.room) && read_number_after(c, keyword, MOST_WORD, &c->level->head.room) && read_line_end(c);
 }
 

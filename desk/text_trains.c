@@ -1,7 +1,7 @@
 /* The statements of delay tables and trains, and the stops of a train. */
 #include <string.h>
 
-#include "compiling.h"
+#include "text_compiling.h"
 
 /* ---- delay tables */
 

@@ -4,8 +4,8 @@
 #include <stdlib.h>
 #include <string.h>
 
-#include "../../desk/draw.h"
-#include "../../desk/svg.h"
+#include "draw.h"
+#include "draw_svg.h"
 
 static int passed, failed;
 
@@ -308,7 +308,7 @@ static void make_line(unsigned trains, unsigned stops, unsigned last)
     struct level *level = &study.level;
     memset(&study, 0, sizeof study);
     study.case_name = "line.case";
-    level->head = (struct head){last, 0, MOST_ROOM, 0};
+    level->head = (struct head){.last = last, .room = MOST_ROOM};
     level->stations = stops;
     level->tracks = stops - 1;
     level->trains = trains;

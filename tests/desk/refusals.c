@@ -4,8 +4,8 @@
 #include <stdio.h>
 #include <string.h>
 
-#include "../../desk/answers.h"
-#include "../../desk/refusal.h"
+#include "answers.h"
+#include "refusal.h"
 #include "refusals_said.h"
 
 enum { SAID_BYTES = 8192, MUTATIONS = 10000, GUESSES = 10000, MOST_EDITS = 6, TRACK_BYTES = 6 };
@@ -157,7 +157,7 @@ static void try_many_tracks(void)
 
 /* ---- texts */
 
-/* The shift example as a text would have it: names, and lines 10 to 19. */
+/* The shift example as a text would have it: names, and lines 8 to 20. */
 static void set_text(struct study *study)
 {
     struct level *level = &study->level;
@@ -167,7 +167,9 @@ static void set_text(struct study *study)
     study->case_name = "early.txt";
     take_case(&study->case_bytes, level);
     study->case_is_text = 1;
-    level->head.line = 10;
+    level->head.line = 8;
+    level->head.safety_line = 9;
+    level->head.room_line = 10;
     for (unsigned i = 0; i < 2; i++) {
         strcpy(level->station[i].name, i == 0 ? "Face" : "Lower Tip");
         strcpy(level->train[i].name, i == 0 ? "Ore-1" : "Ore-2");
@@ -190,6 +192,11 @@ static void spoil_window(struct study *study)
 static void spoil_safety(struct study *study)
 {
     study->level.head.safety = 31;
+}
+
+static void spoil_room(struct study *study)
+{
+    study->level.head.room = 0;
 }
 
 static void spoil_station(struct study *study)
@@ -271,7 +278,7 @@ static void spoil_book(struct study *study)
 }
 
 /* In the order of `texts_said`. */
-static void (*const spoils[])(struct study *study) = {spoil_window, spoil_safety, spoil_station, spoil_stops,     spoil_all_stops, spoil_pairs,
+static void (*const spoils[])(struct study *study) = {spoil_window, spoil_safety, spoil_room, spoil_station, spoil_stops,     spoil_all_stops, spoil_pairs,
                                                       spoil_trains, spoil_ends,   spoil_path,    spoil_tracks,    spoil_last,      spoil_times,
                                                       spoil_weights, spoil_type,  spoil_same_ends, spoil_book};
 

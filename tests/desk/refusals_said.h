@@ -371,15 +371,20 @@ static const struct damage damages[] = {
 
 static const struct words_said texts_said[] = {
     {"6, a window", 6,
-     "  where  early.txt, line 10: window, safety and room\n"
+     "  where  early.txt, line 8: window, safety and room\n"
      "  bytes  field 1 of the compiled case, at byte 0: 01 00 05 02 d0 01 04 00\n"
      "  wrong  The last minute is 720; it can be 1 to 719.\n"
      "  mend   Choose a number from 1 to 719.\n"},
     {"6, a safety time", 6,
-     "  where  early.txt: window, safety and room\n"
+     "  where  early.txt, line 9: window, safety and room\n"
      "  bytes  field 1 of the compiled case, at byte 0: 01 00 05 00 14 1f 04 00\n"
      "  wrong  The safety time is 31 minutes; it can be 0 to 30.\n"
      "  mend   Choose a number from 0 to 30.\n"},
+    {"6, a room", 6,
+     "  where  early.txt, line 10: window, safety and room\n"
+     "  bytes  field 1 of the compiled case, at byte 0: 01 00 05 00 14 01 00 00\n"
+     "  wrong  The room is 0 rows; it can be 1 to 1024.\n"
+     "  mend   Choose a number from 1 to 1024.\n"},
     {"6, a station", 6,
      "  where  early.txt, line 12: station \"Lower Tip\" (station 1, counted from 0)\n"
      "  bytes  field 3 of the compiled case, at byte 12: 02 00 01 00\n"

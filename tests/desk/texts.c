@@ -4,9 +4,9 @@
 #include <stdio.h>
 #include <string.h>
 
-#include "../../desk/answers.h"
-#include "../../desk/bytes.h"
-#include "../../desk/text.h"
+#include "answers.h"
+#include "bytes.h"
+#include "text.h"
 #include "texts_drawn.h"
 #include "texts_wrong.h"
 
@@ -117,7 +117,9 @@ static int has_on_line(const struct text *text, unsigned line, const char *word)
 /* Whether each element of `again` has the line of the text that says it. */
 static int has_lines(const struct text *text)
 {
-    int holds = has_on_line(text, again.head.line, "window");
+    const struct head *head = &again.head;
+    int holds = has_on_line(text, head->line, "window") && has_on_line(text, head->safety_line, "safety");
+    holds &= head->room_line == 0 || has_on_line(text, head->room_line, "room");
     for (unsigned i = 0; i < again.stations; i++)
         holds &= has_on_line(text, again.station[i].line, "station") && has_on_line(text, again.station[i].line, again.station[i].name);
     for (unsigned i = 0; i < again.tracks; i++)

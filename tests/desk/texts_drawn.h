@@ -6,8 +6,8 @@
 #include <stdio.h>
 #include <string.h>
 
-#include "../../desk/level.h"
-#include "../../desk/text.h"
+#include "level.h"
+#include "text.h"
 
 /* ---- drawing */
 
@@ -139,7 +139,7 @@ static void draw_level(struct level *level, const struct tables *book)
     memset(level, 0, sizeof *level);
     if (in_ten(7))
         snprintf(level->title, sizeof level->title, "%s %u%s", in_ten(5) ? "Level \"3\", 早班" : "train", draw(100), in_ten(5) ? "" : " a \"b");
-    level->head = (struct head){draw_number(720, 65535), draw_number(31, 255), in_ten(5) ? 1024 : draw_number(1025, 65535), 0};
+    level->head = (struct head){draw_number(720, 65535), draw_number(31, 255), in_ten(5) ? 1024 : draw_number(1025, 65535), 0, 0, 0};
     for (; level->stations < stations; level->stations++) {
         struct station *station = &level->station[level->stations];
         draw_other_name(level->station[0].name, sizeof *station, level->stations, station->name);

@@ -14,6 +14,7 @@ static const struct wrong_text {
     {"# nothing\n", 2, 1, "`window` is missing: write `window` and the last minute", A_CASE},
     {"window 9\n", 2, 1, "`safety` is missing: write `safety` and the minutes that a station or track stays blocked after a train has left it", A_CASE},
     {"safety 1", 1, 9, "`window` is missing: write `window` and the last minute", A_CASE},
+    {"# hex\n01 0005 0014 01 0400\n", 2, 1, "`01` looks like bytes written in hex; a case is a text of statements, or the bytes themselves", A_CASE},
     {"window\nsafety 0\n", 1, 7, "a whole number of 0 to 65535 is expected after `window`, and the line ends here", A_CASE},
     {"window nine\nsafety 0\n", 1, 8, "a whole number of 0 to 65535 is expected after `window`, and `nine` stands here", A_CASE},
     {"window 65536\nsafety 0\n", 1, 8, "a whole number of 0 to 65535 is expected after `window`, and `65536` stands here", A_CASE},

@@ -1,5 +1,5 @@
 /* Writing SVG 1.1 with presentation attributes alone, which every reader of SVG knows. */
-#include "svg.h"
+#include "draw_svg.h"
 
 #include <string.h>
 

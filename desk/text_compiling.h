@@ -1,9 +1,9 @@
 /* What the statements of a text share while it is compiled: numbers, names, and the parts of a line. */
-#ifndef DESK_COMPILING_H
-#define DESK_COMPILING_H
+#ifndef DESK_TEXT_COMPILING_H
+#define DESK_TEXT_COMPILING_H
 
-#include "names.h"
-#include "words.h"
+#include "text_names.h"
+#include "text_words.h"
 
 enum { MOST_BYTE = 255, MOST_WORD = 65535 };
 

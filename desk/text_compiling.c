@@ -1,5 +1,5 @@
 /* Numbers, names and parts, read from a text with every error said. */
-#include "compiling.h"
+#include "text_compiling.h"
 
 #include <string.h>
 

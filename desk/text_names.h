@@ -1,11 +1,11 @@
 /* Names: which words may be one, which need quotes, and which known name a wrong one is near to. */
-#ifndef DESK_NAMES_H
-#define DESK_NAMES_H
+#ifndef DESK_TEXT_NAMES_H
+#define DESK_TEXT_NAMES_H
 
 #include <stddef.h>
 
 #include "level.h"
-#include "words.h"
+#include "text_words.h"
 
 /* Whether a word without quotes is kept for statements: it is a name only in quotes. */
 int is_keyword(const struct word *word);

@@ -1,5 +1,5 @@
 /* Names of a text, looked up and compared letter by letter. */
-#include "names.h"
+#include "text_names.h"
 
 #include <string.h>
 

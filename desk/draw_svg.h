@@ -1,6 +1,6 @@
 /* An SVG picture, written piece by piece. Lengths are hundredths of a millimetre on paper, counted from the top left corner, and always whole numbers. */
-#ifndef DESK_SVG_H
-#define DESK_SVG_H
+#ifndef DESK_DRAW_SVG_H
+#define DESK_DRAW_SVG_H
 
 #include <stdio.h>
 

@@ -1,6 +1,6 @@
 /* The words of a text one after another, each with its place, and the errors that are said of them. */
-#ifndef DESK_WORDS_H
-#define DESK_WORDS_H
+#ifndef DESK_TEXT_WORDS_H
+#define DESK_TEXT_WORDS_H
 
 #include <stddef.h>
 

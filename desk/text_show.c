@@ -3,7 +3,7 @@
 #include <stdio.h>
 #include <string.h>
 
-#include "names.h"
+#include "text_names.h"
 #include "text.h"
 
 static void put(struct text *text, const char *format, ...)

@@ -1,5 +1,5 @@
 /* Words of a text: blanks and comments passed, quotes taken off, lines and columns counted. */
-#include "words.h"
+#include "text_words.h"
 
 #include <stdarg.h>
 #include <stdio.h>
