@@ -123,6 +123,12 @@ static unsigned tag_before(const struct fault *fault)
     return tag;
 }
 
+/* A field that is out of place can also be one that is none, where a byte before it was lost or added. */
+static void look_before(struct words *words)
+{
+    say_mend(words, "a byte may also be lost or added before this place: `lampreysong show --fields` prints the file field by field.");
+}
+
 void words_of_order(const struct fault *fault, struct words *words)
 {
     unsigned tag = fault->field.tag, before = tag_before(fault);
@@ -136,9 +142,11 @@ void words_of_order(const struct fault *fault, struct words *words)
     } else if (fault->field.place > 0 && tag == TAG_HEAD) {
         say_wrong(words, "this is a second head, but a case has one.");
         say_mend(words, "take one of the two out.");
+        look_before(words);
     } else if (tag < before) {
         say_wrong(words, "a %s (tag %u) stands after a %s (tag %u).", kind_of(tag), tag, kind_of(before), before);
         say_mend(words, "the order is head, stations, tracks, trains, delay tables: put it before the first %s.", kind_of(before));
+        look_before(words);
     }
 }
 

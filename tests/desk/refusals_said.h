@@ -113,17 +113,20 @@ static const struct damage damages[] = {
      "  where  shift.case: head\n"
      "  bytes  field 2, at byte 8: 01 00 05 00 14 01 04 00\n"
      "  wrong  This is a second head, but a case has one.\n"
-     "  mend   Take one of the two out.\n"},
+     "  mend   Take one of the two out.\n"
+     "         A byte may also be lost or added before this place: `lampreysong show --fields` prints the file field by field.\n"},
     {"3, a station after a track", 22, 0, "02 0001 01", NULL, 3,
      "  where  shift.case: station 2, counted from 0\n"
      "  bytes  field 5, at byte 22: 02 00 01 01\n"
      "  wrong  A station (tag 2) stands after a track (tag 3).\n"
-     "  mend   The order is head, stations, tracks, trains, delay tables: put it before the first track.\n"},
+     "  mend   The order is head, stations, tracks, trains, delay tables: put it before the first track.\n"
+     "         A byte may also be lost or added before this place: `lampreysong show --fields` prints the file field by field.\n"},
     {"3, a train after a table", 60, 0, "04 ffff", NULL, 3,
      "  where  shift.case: train 2, counted from 0\n"
      "  bytes  field 8, at byte 60: 04 ff ff\n"
      "  wrong  A train (tag 4) stands after a delay table (tag 5).\n"
-     "  mend   The order is head, stations, tracks, trains, delay tables: put it before the first delay table.\n"},
+     "  mend   The order is head, stations, tracks, trains, delay tables: put it before the first delay table.\n"
+     "         A byte may also be lost or added before this place: `lampreysong show --fields` prints the file field by field.\n"},
     {"3, a case in place of a book", 0, 0, "", "01 0005 0014 01 0400", 3,
      "  where  types.book: head\n"
      "  bytes  field 1, at byte 0: 01 00 05 00 14 01 04 00\n"
