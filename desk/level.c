@@ -74,3 +74,16 @@ void give_table_names(struct tables *tables)
     for (unsigned i = 0; i < tables->count; i++)
         snprintf(tables->table[i].name, sizeof(name_text), "D%u", tables->table[i].type);
 }
+
+void take_names(struct level *level, const struct level *named)
+{
+    memcpy(level->title, named->title, sizeof level->title);
+    for (unsigned i = 0; i < level->stations; i++)
+        memcpy(level->station[i].name, named->station[i].name, sizeof(name_text));
+    for (unsigned i = 0; i < level->tracks; i++)
+        memcpy(level->track[i].name, named->track[i].name, sizeof(name_text));
+    for (unsigned i = 0; i < level->trains; i++)
+        memcpy(level->train[i].name, named->train[i].name, sizeof(name_text));
+    for (unsigned i = 0; i < level->tables.count; i++)
+        memcpy(level->tables.table[i].name, named->tables.table[i].name, sizeof(name_text));
+}

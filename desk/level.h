@@ -95,6 +95,9 @@ const char *last_station(const struct level *level, const struct train *train);
 void give_names(struct level *level);
 void give_table_names(struct tables *tables);
 
+/* Takes over the title and the names of another level of the same shape. */
+void take_names(struct level *level, const struct level *named);
+
 /* Calls a track by its ends, `Face-Tip`, cut short if need be. */
 void name_by_ends(const struct level *level, struct track *track);
 

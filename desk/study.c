@@ -85,20 +85,6 @@ static int read_book(struct study *study)
 
 /* ---- the case */
 
-/* The names that a text gives, taken over by a level that was read from the bytes that the text was compiled to. */
-static void take_names(struct level *level, const struct level *named)
-{
-    memcpy(level->title, named->title, sizeof level->title);
-    for (unsigned i = 0; i < level->stations; i++)
-        memcpy(level->station[i].name, named->station[i].name, sizeof(name_text));
-    for (unsigned i = 0; i < level->tracks; i++)
-        memcpy(level->track[i].name, named->track[i].name, sizeof(name_text));
-    for (unsigned i = 0; i < level->trains; i++)
-        memcpy(level->train[i].name, named->train[i].name, sizeof(name_text));
-    for (unsigned i = 0; i < level->tables.count; i++)
-        memcpy(level->tables.table[i].name, named->tables.table[i].name, sizeof(name_text));
-}
-
 static int compare_case(const struct study *study)
 {
     static struct level seen, again;

@@ -4,18 +4,7 @@
 #include <string.h>
 
 #include "lampreysong.h"
-
-static int passed, failed;
-
-static void expect(int holds, const char *what)
-{
-    if (holds) {
-        passed++;
-    } else {
-        failed++;
-        printf("failed: %s\n", what);
-    }
-}
+#include "tally.h"
 
 /* The shift example. */
 static const uint8_t shift[] = {
@@ -92,6 +81,5 @@ int main(void)
     layouts();
     calls();
     fields();
-    printf("%d passed, %d failed\n", passed, failed);
-    return failed != 0;
+    return tally();
 }

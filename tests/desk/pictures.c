@@ -6,18 +6,8 @@
 
 #include "draw.h"
 #include "draw_svg.h"
-
-static int passed, failed;
-
-static void expect(int holds, const char *what)
-{
-    if (holds) {
-        passed++;
-    } else {
-        failed++;
-        printf("failed: %s\n", what);
-    }
-}
+#include "pairs.h"
+#include "tally.h"
 
 /* ---- a picture, drawn and read again */
 
@@ -486,28 +476,13 @@ static void bands(void)
 
 enum { MOST_PAIRS_DRAWN = 300, MOST_MINUTES_DRAWN = 60000 };
 
-static int read_pair(FILE *file, struct study *into)
-{
-    unsigned char head[4];
-    memset(into, 0, sizeof *into);
-    into->case_name = "pair";
-    if (fread(head, 1, sizeof head, file) != sizeof head)
-        return 0;
-    into->case_bytes.length = head[0] * 256u + head[1];
-    into->book_bytes.length = head[2] * 256u + head[3];
-    if (into->case_bytes.length > HANDED || into->book_bytes.length > HANDED)
-        return 0;
-    return fread(into->case_bytes.at, 1, into->case_bytes.length, file) == into->case_bytes.length &&
-           fread(into->book_bytes.at, 1, into->book_bytes.length, file) == into->book_bytes.length;
-}
-
 /* Each accepted pair, up to a number, whose room suffices. */
 static void pairs(const char *name)
 {
     FILE *file = fopen(name, "rb");
     unsigned drawn = 0, minutes = 0;
     expect(file != NULL, "the file of pairs is there");
-    while (file != NULL && drawn < MOST_PAIRS_DRAWN && minutes < MOST_MINUTES_DRAWN && read_pair(file, &study)) {
+    while (file != NULL && drawn < MOST_PAIRS_DRAWN && minutes < MOST_MINUTES_DRAWN && next_pair(file, &study)) {
         if (ask_files(&study).refusal != 0)
             continue;
         take_case(&study.case_bytes, &study.level);
@@ -535,6 +510,5 @@ int main(int count, char **words)
     bands();
     if (count > 1)
         pairs(words[1]);
-    printf("%d passed, %d failed\n", passed, failed);
-    return failed != 0;
+    return tally();
 }

@@ -6,21 +6,11 @@
 
 #include "answers.h"
 #include "refusal.h"
+#include "pairs.h"
 #include "refusals_said.h"
+#include "tally.h"
 
 enum { SAID_BYTES = 8192, MUTATIONS = 10000, GUESSES = 10000, MOST_EDITS = 6, TRACK_BYTES = 6 };
-
-static unsigned passed, failed;
-
-static void expect(const char *what, int holds)
-{
-    if (holds)
-        passed++;
-    else {
-        failed++;
-        printf("failed: %s\n", what);
-    }
-}
 
 /* ---- files */
 
@@ -78,7 +68,7 @@ static void say(const struct study *study, struct refusal refusal, const struct 
     static FILE *paper;
     size_t length;
     if (paper == NULL && (paper = tmpfile()) == NULL) {
-        expect("a file for what is said can be had", 0);
+        expect(0, "a file for what is said can be had");
         return;
     }
     rewind(paper);
@@ -110,7 +100,7 @@ static void expect_said(const char *what, struct refusal refusal, unsigned numbe
 {
     const char *found = words_after(refusal);
     int same = refusal.number == number && found != NULL && strcmp(found, words) == 0;
-    expect(what, same);
+    expect(same, what);
     if (!same)
         printf("said:\n%sexpected: %u\n%s", said, number, words);
 }
@@ -447,7 +437,7 @@ static void try_mutations(void)
             damage_byte(study.book_name != NULL && chance(2) ? &study.book_bytes : &study.case_bytes);
         wrong += !said_right(&study);
     }
-    expect("files damaged by chance are said right", wrong == 0);
+    expect(wrong == 0, "files damaged by chance are said right");
 }
 
 /* A refusal that no file has given is said without a step past the files' ends, whatever its number and place. */
@@ -464,48 +454,23 @@ static void try_guesses(void)
             damage_byte(chance(2) ? &study.book_bytes : &study.case_bytes);
         wrong += !says_alike(&study, guess) || words_after(guess) == NULL;
     }
-    expect("guessed refusals are said within the files", wrong == 0);
+    expect(wrong == 0, "guessed refusals are said within the files");
 }
 
 /* ---- a file of pairs */
 
-static int read_size(FILE *file, size_t *size)
-{
-    int high = getc(file), low = getc(file);
-    *size = high == EOF || low == EOF ? 0 : (size_t)high * 256 + (size_t)low;
-    return low != EOF;
-}
-
-/* The first bytes of a file of the pair, as many as are handed on; the others are passed over. */
-static void read_handed(FILE *file, size_t size, struct bytes *bytes)
-{
-    bytes->length = 0;
-    for (; size > 0; size--) {
-        int byte = getc(file);
-        if (bytes->length < HANDED && byte != EOF)
-            bytes->at[bytes->length++] = (uint8_t)byte;
-    }
-}
-
 static void try_pairs(const char *name)
 {
     static struct study study;
-    size_t case_size, book_size;
     unsigned pairs = 0, wrong = 0;
     FILE *file = fopen(name, "rb");
-    expect("the file of pairs can be opened", file != NULL);
+    expect(file != NULL, "the file of pairs can be opened");
     if (file == NULL)
         return;
-    study.case_name = "drawn.case";
-    while (read_size(file, &case_size) && read_size(file, &book_size)) {
-        read_handed(file, case_size, &study.case_bytes);
-        read_handed(file, book_size, &study.book_bytes);
-        study.book_name = book_size > 0 ? "drawn.book" : NULL;
+    for (; next_pair(file, &study); pairs++)
         wrong += !said_right(&study);
-        pairs++;
-    }
     fclose(file);
-    expect("the pairs are said right", pairs > 0 && wrong == 0);
+    expect(pairs > 0 && wrong == 0, "the pairs are said right");
     printf("%u pairs\n", pairs);
 }
 
@@ -514,12 +479,12 @@ static void try_pairs(const char *name)
 static void try_meanings(void)
 {
     for (unsigned number = 1; number <= LAMPREYSONG_STOP_TOO_LATE; number++) {
-        expect("a number has a meaning", refusal_meaning(number)[0] != '\0');
+        expect(refusal_meaning(number)[0] != '\0', "a number has a meaning");
         for (unsigned other = 1; other < number; other++)
-            expect("two numbers have two meanings", strcmp(refusal_meaning(number), refusal_meaning(other)) != 0);
+            expect(strcmp(refusal_meaning(number), refusal_meaning(other)) != 0, "two numbers have two meanings");
     }
-    expect("0 has no meaning", strcmp(refusal_meaning(0), "a number that has no meaning") == 0);
-    expect("18 has no meaning", strcmp(refusal_meaning(18), "a number that has no meaning") == 0);
+    expect(strcmp(refusal_meaning(0), "a number that has no meaning") == 0, "0 has no meaning");
+    expect(strcmp(refusal_meaning(18), "a number that has no meaning") == 0, "18 has no meaning");
 }
 
 static void try_shares(void)
@@ -533,8 +498,8 @@ static void try_shares(void)
                   {4999999999, most, "<0.01"}, {5000000000, most, "0.01"}, {14999999999, most, "0.01"}, {15000000000, most, "0.02"},
                   {99995000000000, most, ">99.99"}, {99994999999999, most, "99.99"}, {3600, 10000, "36.00"}, {33333333333333, most, "33.33"}};
     for (size_t i = 0; i < sizeof shares / sizeof *shares; i++) {
-        expect(shares[i].text, strcmp(share_text(shares[i].part, shares[i].whole).text, shares[i].text) == 0);
-        expect("a share in hundredths", share_of(shares[i].part, shares[i].whole) <= 10000);
+        expect(strcmp(share_text(shares[i].part, shares[i].whole).text, shares[i].text) == 0, shares[i].text);
+        expect(share_of(shares[i].part, shares[i].whole) <= 10000, "a share in hundredths");
     }
 }
 
@@ -543,21 +508,21 @@ static void try_minutes(void)
     static struct study study;
     static struct lent lent;
     set_text(&study);
-    expect("the shift example is answered", ask_listing(&study, &lent).refusal == 0);
-    expect("50 of 100 of the first train", minute_by(&study, &lent, 0, 50) == 6);
-    expect("60 of 100 of the first train", minute_by(&study, &lent, 0, 60) == 6);
-    expect("61 of 100 of the first train", minute_by(&study, &lent, 0, 61) == 9);
-    expect("100 of 100 of the first train", minute_by(&study, &lent, 0, 100) == 9);
-    expect("36 of 100 of the second train", minute_by(&study, &lent, 1, 36) == 11);
-    expect("weight by a minute", weight_by(&lent, 0, 5) == 0 && weight_by(&lent, 0, 6) == 6000 && weight_by(&lent, 0, 719) == 10000);
-    expect("weight in a minute", weight_in(&lent, 1, 14) == 6400 && weight_in(&lent, 1, 13) == 0);
+    expect(ask_listing(&study, &lent).refusal == 0, "the shift example is answered");
+    expect(minute_by(&study, &lent, 0, 50) == 6, "50 of 100 of the first train");
+    expect(minute_by(&study, &lent, 0, 60) == 6, "60 of 100 of the first train");
+    expect(minute_by(&study, &lent, 0, 61) == 9, "61 of 100 of the first train");
+    expect(minute_by(&study, &lent, 0, 100) == 9, "100 of 100 of the first train");
+    expect(minute_by(&study, &lent, 1, 36) == 11, "36 of 100 of the second train");
+    expect(weight_by(&lent, 0, 5) == 0 && weight_by(&lent, 0, 6) == 6000 && weight_by(&lent, 0, 719) == 10000, "weight by a minute");
+    expect(weight_in(&lent, 1, 14) == 6400 && weight_in(&lent, 1, 13) == 0, "weight in a minute");
     study.level.head.last = 13;
     put_case(&study.level, &study.case_bytes);
-    expect("a window of 13 minutes is answered", ask_listing(&study, &lent).refusal == 0);
-    expect("36 of 100 arrive by minute 13", minute_by(&study, &lent, 1, 36) == 11);
-    expect("37 of 100 don't", minute_by(&study, &lent, 1, 37) == -1);
+    expect(ask_listing(&study, &lent).refusal == 0, "a window of 13 minutes is answered");
+    expect(minute_by(&study, &lent, 1, 36) == 11, "36 of 100 arrive by minute 13");
+    expect(minute_by(&study, &lent, 1, 37) == -1, "37 of 100 don't");
     memset(&lent, 0, sizeof lent);
-    expect("where nothing has arrived there is no minute", minute_by(&study, &lent, 0, 1) == -1 && minute_by(&study, &lent, 1, 100) == -1);
+    expect(minute_by(&study, &lent, 0, 1) == -1 && minute_by(&study, &lent, 1, 100) == -1, "where nothing has arrived there is no minute");
 }
 
 static void try_entries(void)
@@ -566,24 +531,24 @@ static void try_entries(void)
     static struct lent lent;
     struct entry entry = {0, 0, OUTSIDE, 0, 0, {1, 3}};
     set_text(&study);
-    expect("all choices weigh 100 to the power of the trains", whole_weight(&study.level) == 10000);
-    expect("one delay of a train", entry_weight(&study, &entry) == 6000);
+    expect(whole_weight(&study.level) == 10000, "all choices weigh 100 to the power of the trains");
+    expect(entry_weight(&study, &entry) == 6000, "one delay of a train");
     entry.cover[1] = 2;
-    expect("one choice", entry_weight(&study, &entry) == 2400);
+    expect(entry_weight(&study, &entry) == 2400, "one choice");
     entry.cover[0] = entry.cover[1] = 3;
-    expect("every choice", entry_weight(&study, &entry) == 10000);
-    expect("five entries after minute 5", ask_run(&study, 5, &lent).value == 5);
+    expect(entry_weight(&study, &entry) == 10000, "every choice");
+    expect(ask_run(&study, 5, &lent).value == 5, "five entries after minute 5");
     entry = entry_at(&lent, 0);
-    expect("the first entry", entry.train == 1 && !entry.blocking && entry.kind == OUTSIDE && entry.minute == 5 && entry_weight(&study, &entry) == 2400);
+    expect(entry.train == 1 && !entry.blocking && entry.kind == OUTSIDE && entry.minute == 5 && entry_weight(&study, &entry) == 2400, "the first entry");
     entry = entry_at(&lent, 2);
-    expect("the third entry", entry.train == 0 && entry.kind == ON_TRACK && entry.number == 0 && entry.minute == 6 && entry_weight(&study, &entry) == 6000);
+    expect(entry.train == 0 && entry.kind == ON_TRACK && entry.number == 0 && entry.minute == 6 && entry_weight(&study, &entry) == 6000, "the third entry");
     study.level.trains = MOST_TRAINS;
-    expect("seven trains weigh 10^14", whole_weight(&study.level) == 100000000000000);
+    expect(whole_weight(&study.level) == 100000000000000, "seven trains weigh 10^14");
     for (unsigned k = 0; k < MOST_TRAINS; k++) {
         study.level.train[k].type = 1;
         entry.cover[k] = 3;
     }
-    expect("every choice of seven trains", entry_weight(&study, &entry) == 100000000000000);
+    expect(entry_weight(&study, &entry) == 100000000000000, "every choice of seven trains");
 }
 
 int main(int count, char **words)
@@ -602,6 +567,5 @@ int main(int count, char **words)
     try_shares();
     try_minutes();
     try_entries();
-    printf("%u passed, %u failed\n", passed, failed);
-    return failed > 0;
+    return tally();
 }

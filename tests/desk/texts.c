@@ -6,23 +6,22 @@
 
 #include "answers.h"
 #include "bytes.h"
+#include "pairs.h"
+#include "tally.h"
 #include "text.h"
 #include "texts_drawn.h"
 #include "texts_wrong.h"
 
 enum { LEVELS = 6000, DAMAGED = 12000, MOST_WORDS = 400 };
 
-static unsigned passed, failed;
 static const struct tables no_book;
 
-static void expect(int holds, const char *what, unsigned nth)
+/* One check of many that are alike, by number. */
+static void expect_nth(int holds, const char *what, unsigned nth)
 {
-    if (holds)
-        passed++;
-    else {
-        failed++;
-        printf("failed: %s, number %u\n", what, nth);
-    }
+    expect(holds, what);
+    if (!holds)
+        printf("    it is number %u\n", nth);
 }
 
 /* ---- levels compared */
@@ -49,19 +48,6 @@ static int same_names(const struct level *a, const struct level *b)
         if (strcmp(a->train[i].name, b->train[i].name) != 0)
             return 0;
     return same_tables(&a->tables, &b->tables);
-}
-
-static void take_names(struct level *level, const struct level *named)
-{
-    memcpy(level->title, named->title, sizeof level->title);
-    for (unsigned i = 0; i < level->stations; i++)
-        memcpy(level->station[i].name, named->station[i].name, sizeof(name_text));
-    for (unsigned i = 0; i < level->tracks; i++)
-        memcpy(level->track[i].name, named->track[i].name, sizeof(name_text));
-    for (unsigned i = 0; i < level->trains; i++)
-        memcpy(level->train[i].name, named->train[i].name, sizeof(name_text));
-    for (unsigned i = 0; i < level->tables.count; i++)
-        memcpy(level->tables.table[i].name, named->tables.table[i].name, sizeof(name_text));
 }
 
 static int same_text(const struct text *a, const struct text *b)
@@ -153,9 +139,9 @@ static void drawn_books(const struct tables *book, unsigned nth)
         write_table(&damaged, book, i);
         add_line_end(&damaged);
     }
-    expect(leads_to_book(&shown, book), "a shown book leads back to its bytes and names", nth);
-    expect(leads_to_book(&damaged, book), "a book written freely leads to its bytes and names", nth);
-    expect(shown_again(&damaged, &shown, &no_book, &error), "a book written freely is shown again", nth);
+    expect_nth(leads_to_book(&shown, book), "a shown book leads back to its bytes and names", nth);
+    expect_nth(leads_to_book(&damaged, book), "a book written freely leads to its bytes and names", nth);
+    expect_nth(shown_again(&damaged, &shown, &no_book, &error), "a book written freely is shown again", nth);
 }
 
 /* ---- damaged texts */
@@ -193,13 +179,13 @@ static void damaged_text(const struct tables *book, unsigned nth)
     memset(&error, 0, sizeof error);
     damage(&damaged);
     if (!compile_case(&damaged, book, &level, &error)) {
-        expect(is_error_within(&damaged), "the error of a damaged text has its place and words", nth);
+        expect_nth(is_error_within(&damaged), "the error of a damaged text has its place and words", nth);
         return;
     }
     compiled_though_damaged++;
     show_case(&level, book, &shown);
-    expect(leads_to(&shown, book, &level) && is_shown_the_same(&level, book), "a damaged text that is compiled is shown and compiled again", nth);
-    expect(shown_again(&damaged, &shown, book, &error), "a damaged text that is compiled is shown again", nth);
+    expect_nth(leads_to(&shown, book, &level) && is_shown_the_same(&level, book), "a damaged text that is compiled is shown and compiled again", nth);
+    expect_nth(shown_again(&damaged, &shown, book, &error), "a damaged text that is compiled is shown again", nth);
 }
 
 /* ---- drawn levels */
@@ -214,13 +200,13 @@ static void drawn_level(unsigned nth)
         book = no_book;
     draw_level(&level, &book);
     show_case(&level, &book, &shown);
-    expect(leads_to(&shown, &book, &level) && has_lines(&shown), "a shown level leads back to its bytes, names and lines", nth);
-    expect(is_shown_the_same(&level, &book), "a level that is taken from its bytes is shown the same", nth);
-    expect(shown_again(&shown, &shown, &book, &error), "what is shown is shown again", nth);
+    expect_nth(leads_to(&shown, &book, &level) && has_lines(&shown), "a shown level leads back to its bytes, names and lines", nth);
+    expect_nth(is_shown_the_same(&level, &book), "a level that is taken from its bytes is shown the same", nth);
+    expect_nth(shown_again(&shown, &shown, &book, &error), "what is shown is shown again", nth);
     write_freely(&level, &book, &damaged);
-    expect(leads_to(&damaged, &book, &level) && has_lines(&damaged), "a level written freely leads to its bytes, names and lines", nth);
+    expect_nth(leads_to(&damaged, &book, &level) && has_lines(&damaged), "a level written freely leads to its bytes, names and lines", nth);
     show_case(&again, &book, &shown);
-    expect(shown_again(&damaged, &shown, &book, &error), "a level written freely is shown again", nth);
+    expect_nth(shown_again(&damaged, &shown, &book, &error), "a level written freely is shown again", nth);
     damaged_text(&book, nth);
     drawn_books(&book, nth);
 }
@@ -231,7 +217,7 @@ static void damaged_examples(void)
         damaged = example;
         damaged_text(&no_book, nth);
     }
-    expect(compiled_though_damaged > DAMAGED / 50, "some damaged texts are compiled", compiled_though_damaged);
+    expect_nth(compiled_though_damaged > DAMAGED / 50, "some damaged texts are compiled", compiled_though_damaged);
 }
 
 /* ---- spoiled texts */
@@ -253,14 +239,14 @@ static void spoiled_words(void)
         nth++;
         damaged = shown;
         cut_out(&damaged, from, past);
-        expect(!shown_again(&shown, &damaged, &no_book, &error), "a word that is left out is seen", nth);
-        expect(!shown_again(&damaged, &shown, &no_book, &error), "a word that is put in is seen", nth);
+        expect_nth(!shown_again(&shown, &damaged, &no_book, &error), "a word that is left out is seen", nth);
+        expect_nth(!shown_again(&damaged, &shown, &no_book, &error), "a word that is put in is seen", nth);
         damaged = shown;
         damaged.at[past - 1] = damaged.at[past - 1] == '7' ? '8' : '7';
-        expect(!shown_again(&shown, &damaged, &no_book, &error), "a word that is another is seen", nth);
+        expect_nth(!shown_again(&shown, &damaged, &no_book, &error), "a word that is another is seen", nth);
         damaged = shown;
         put_in(&damaged, past, " 9", 2);
-        expect(!shown_again(&shown, &damaged, &no_book, &error), "a word more is seen", nth);
+        expect_nth(!shown_again(&shown, &damaged, &no_book, &error), "a word more is seen", nth);
     }
 }
 
@@ -304,8 +290,8 @@ static void spoiled_statements(void)
         damaged = shown;
         cut_out(&damaged, at, there ? at + length : at);
         put_in(&damaged, at, spoiled[i][1], strlen(spoiled[i][1]));
-        expect(there && shown_again(&example, &shown, &no_book, &error), "the example is shown", i);
-        expect(!shown_again(&example, &damaged, &no_book, &error), "a spoiled statement is seen", i);
+        expect_nth(there && shown_again(&example, &shown, &no_book, &error), "the example is shown", i);
+        expect_nth(!shown_again(&example, &damaged, &no_book, &error), "a spoiled statement is seen", i);
     }
 }
 
@@ -342,7 +328,7 @@ static void spoiled_left_out(void)
     for (unsigned i = 0; i < sizeof tried / sizeof *tried; i++) {
         set_text(&damaged, tried[i].text);
         set_text(&shown, tried[i].shown);
-        expect(shown_again(&damaged, &shown, &book, &error) == tried[i].seen, "what a text leaves out is shown in one way", i);
+        expect_nth(shown_again(&damaged, &shown, &book, &error) == tried[i].seen, "what a text leaves out is shown in one way", i);
     }
 }
 
@@ -352,11 +338,11 @@ static void shown_by_type(void)
     static const struct tables book = {1, {{"D1", 5, 1, {{0, 100}}, 0}}};
     static struct level level;
     set_text(&damaged, "window 9\nsafety 0\ndelays D1 +0 100%\ntrain A type 1 priority 0\ntrain B type 5 priority 0\n");
-    expect(compile_case(&damaged, &no_book, &level, &error), "a case with types is compiled", 0);
+    expect(compile_case(&damaged, &no_book, &level, &error), "a case with types is compiled");
     show_case(&level, &book, &shown);
     set_text(&damaged, "window  9\nsafety  0\nroom    1024\n\ndelays D1  type 1  +0 100%\n\n"
                        "train A  delays D1  priority 0\n\ntrain B  type 5     priority 0\n");
-    expect(same_text(&shown, &damaged), "a train whose table's name leads to another is shown by its type", 0);
+    expect(same_text(&shown, &damaged), "a train whose table's name leads to another is shown by its type");
 }
 
 /* ---- errors */
@@ -382,7 +368,7 @@ static void wrong_texts(void)
         int holds = has_error(&wrong[i]);
         if (!holds)
             printf("%s\n  %u:%u: %s\n", wrong[i].text, error.line, error.column, error.words);
-        expect(holds, "a wrong text has this very error", i);
+        expect_nth(holds, "a wrong text has this very error", i);
     }
 }
 
@@ -401,27 +387,11 @@ static void examples(void)
 {
     static struct text text;
     static struct level level;
-    expect(read_example("examples/shift.txt", &text) && compile_case(&text, &no_book, &level, &error), "the shift example is compiled", 0);
+    expect(read_example("examples/shift.txt", &text) && compile_case(&text, &no_book, &level, &error), "the shift example is compiled");
     put_case(&level, &bytes);
     expect(read_example("examples/shift.case", &text) && text.length == bytes.length && memcmp(text.at, bytes.at, bytes.length) == 0,
-           "its bytes are those of its case", 0);
-    expect(read_example("examples/level.txt", &example), "the level is there", 0);
-}
-
-static unsigned read_length(const unsigned char *at)
-{
-    return at[0] * 256u + at[1];
-}
-
-/* Reads a file of a pair; at most the handed part is kept. */
-static int read_bytes(FILE *file, unsigned length, struct bytes *kept)
-{
-    static unsigned char whole[65536];
-    kept->length = length < HANDED ? length : HANDED;
-    if (fread(whole, 1, length, file) != length)
-        return 0;
-    memcpy(kept->at, whole, kept->length);
-    return 1;
+           "its bytes are those of its case");
+    expect(read_example("examples/level.txt", &example), "the level is there");
 }
 
 static void accepted_pair(struct study *study, unsigned nth)
@@ -429,26 +399,22 @@ static void accepted_pair(struct study *study, unsigned nth)
     take_case(&study->case_bytes, &study->level);
     take_book(&study->book_bytes, &study->book);
     show_case(&study->level, &study->book, &shown);
-    expect(leads_to(&shown, &study->book, &study->level) && same_bytes(&bytes_again, &study->case_bytes), "an accepted case leads back to its bytes", nth);
+    expect_nth(leads_to(&shown, &study->book, &study->level) && same_bytes(&bytes_again, &study->case_bytes), "an accepted case leads back to its bytes", nth);
     show_book(&study->book, &shown);
-    expect(leads_to_book(&shown, &study->book) && same_bytes(&bytes_again, &study->book_bytes), "an accepted book leads back to its bytes", nth);
+    expect_nth(leads_to_book(&shown, &study->book) && same_bytes(&bytes_again, &study->book_bytes), "an accepted book leads back to its bytes", nth);
 }
 
 static void pairs(const char *name)
 {
     static struct study study;
     FILE *file = fopen(name, "rb");
-    unsigned char lengths[4];
     unsigned nth = 0, accepted = 0;
-    int whole = file != NULL;
-    for (; whole && fread(lengths, 1, sizeof lengths, file) == sizeof lengths; nth++) {
-        whole = read_bytes(file, read_length(lengths), &study.case_bytes) && read_bytes(file, read_length(lengths + 2), &study.book_bytes);
-        if (whole && ask_files(&study).refusal == 0) {
+    for (; file != NULL && next_pair(file, &study); nth++)
+        if (ask_files(&study).refusal == 0) {
             accepted++;
             accepted_pair(&study, nth);
         }
-    }
-    expect(whole && accepted > 0, "the pairs are read to their end, and some are accepted", nth);
+    expect(accepted > 0, "some of the pairs are accepted");
     if (file != NULL)
         fclose(file);
     printf("%u pairs, %u accepted\n", nth, accepted);
@@ -467,6 +433,5 @@ int main(int count, char **words)
     shown_by_type();
     if (count > 1)
         pairs(words[1]);
-    printf("%u passed, %u failed\n", passed, failed);
-    return failed > 0;
+    return tally();
 }
