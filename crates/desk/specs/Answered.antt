@@ -23,8 +23,8 @@ use Rattle.out_figures.specs.Sums as figures
 use Rattle.out_figures.specs.Weighed.{holds-weighed, holds-planned}
 use Rattle.out_figures.specs.declared.Figures.{Figures}
 use Rattle.out_figures.specs.Answers.{figuresAnswer, Holds}
-use Rattle.desk.specs.declared.Answer.{Answer}
-use Rattle.desk.specs.Answers.{answered}
+use Rattle.laying.specs.declared.Answer.{Answer}
+use Rattle.laying.specs.Answers.{answered}
 use Rattle.desk.specs.Steps.{Printable, Printed, Measurable, Measured}
 use Rattle.theory_codes.specs.Lookups.{table-plan}
 use Rattle.theory_weights.specs.Arrivals.{joint-seen}

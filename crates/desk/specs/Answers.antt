@@ -4,32 +4,19 @@ use mathlib.Core.Path.{_≡_}
 use mathlib.Core.List.{List, [], _∷_}
 use mathlib.Core.Option.{Option}
 use Prim.Native.Nat.{ℕ}
-use Rattle.rules.specs.Refusals.{Refusal, Result}
+use Rattle.rules.specs.Refusals.{Result}
 use Rattle.rules.specs.Viewer.{viewed}
 use Rattle.rules.specs.Calls.{Memory, Lent, singleRun, runCall, listingCall, figuresCall}
 use Rattle.rules.specs.Figures as rules
 use Rattle.rules.specs.Answers as answers
 use Rattle.out_figures.specs.declared.Figures.{Figures}
 use Rattle.out_figures.specs.Answers.{caseOf}
-use Rattle.desk.specs.declared.Answer.{Answer}
+use Rattle.laying.specs.declared.Answer.{Answer}
 use Rattle.desk.specs.declared.TrainFigures.{TrainFigures}
 use Rattle.desk.specs.declared.Viewed.{Viewed}
+use Rattle.laying.specs.Answers.{structOf, answerOf}
 
--- ---- the single run, the run and the listing
-
--- the struct of an answer
-abbrev pub structOf : answers.Answer → Answer
-structOf a = record { refusal = a .refusal; file = a .file; place = a .place; value = a .value }
-
-abbrev pub refusedWith : Refusal → Answer
-refusedWith r = structOf (answers.refusedWith r)
-
-abbrev pub answered : ℕ → Answer
-answered v = structOf (answers.answered v)
-
--- number of entries, or number of bytes
-abbrev pub answerOf : Result ℕ → Answer
-answerOf r = structOf (answers.numberAnswer r)
+-- ---- the single run
 
 -- minute of arrival, or 65,535
 abbrev pub singleAnswer : Result (Option ℕ) → Answer

@@ -16,10 +16,11 @@ use Rattle.out_images.specs.Rows.{Weighed}
 use Rattle.out_figures.specs.declared.Figures.{Figures}
 use Rattle.out_figures.specs.Answers.{figuresAnswer, noFigures}
 use Rattle.out_figures.specs.Laws.{case-of}
-use Rattle.desk.specs.declared.Answer.{Answer}
+use Rattle.laying.specs.declared.Answer.{Answer}
 use Rattle.desk.specs.declared.TrainFigures.{TrainFigures}
-use Rattle.desk.specs.Answers.{refusedWith, answered, answerOf, trainFigures, figuresOf, lentTwo, lentThree, Gives, GivesText}
-use Rattle.desk.specs.Steps.{entries, rowsAfter, weightsAfter, InWords, Laid}
+use Rattle.laying.specs.Answers.{refusedWith, answered, answerOf}
+use Rattle.desk.specs.Answers.{trainFigures, figuresOf, lentTwo, lentThree, Gives, GivesText}
+use Rattle.laying.specs.Steps.{entries, rowsAfter, weightsAfter, InWords, Laid}
 
 -- ---- lent memory
 

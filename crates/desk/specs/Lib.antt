@@ -2,8 +2,6 @@ pub mod Answers
 pub mod Fields
 pub mod Steps
 pub mod Laws
-pub mod Tables
 pub mod Single
-pub mod Rows
 pub mod Answered
 pub mod Ends

@@ -2,9 +2,9 @@
 -- Assumes nothing.
 use mathlib.Core.Path.{_≡_, refl, sym, ap, _∙_, subst}
 use mathlib.Core.Bool.{Bool, true, false}
-use mathlib.Core.List.{List, [], _∷_}
+use mathlib.Core.List.{List}
 use mathlib.Core.Option.{none}
-use Prim.Native.Nat.{ℕ, suc, _≤_, _<_}
+use Prim.Native.Nat.{ℕ, _<_}
 use native.Mathlib.Omega.{arith}
 use lib.ListN.{length, getD}
 use lib.Dec.{leb}
@@ -14,7 +14,6 @@ use Rattle.rules.specs.Refusals.Result.{refused, answer}
 use Rattle.rules.specs.Files.{Case, files}
 use Rattle.rules.specs.Single.{arrival}
 use Rattle.rules.specs.Calls.{choiceBroken, noSuchTrain, singleRun}
-use Rattle.theory_lists.specs.Every.{Every}
 use Rattle.rules.specs.Promised.{Bytes}
 use Rattle.theory_sound.specs.Facts.{Sound}
 use Rattle.theory_sound.specs.Accepted.{accepted-sound}
@@ -26,30 +25,16 @@ use Rattle.file_lookup.specs.declared.Files.the-variants as told
 use Rattle.file_lookup.specs.Answers.{sizesOf, filesOf}
 use Rattle.file_lookup.specs.Laws.{sound-unsound}
 use Rattle.file_arguments.specs.Arguments.{forSingle}
-use Rattle.file_plan.specs.Small.{files-small}
 use Rattle.single.specs.Words.{Small}
 use Rattle.single.specs.Runs.{Arrives}
 use Rattle.single.specs.Low.{words-small, tables-last}
-use Rattle.desk.specs.declared.Answer.{Answer}
-use Rattle.desk.specs.Answers.{answered, singleAnswer}
-use Rattle.desk.specs.Steps.{filesAnswer, Tells}
+use Rattle.laying.specs.declared.Answer.{Answer}
+use Rattle.laying.specs.Answers.{answered}
+use Rattle.desk.specs.Answers.{singleAnswer}
+use Rattle.laying.specs.Steps.{filesAnswer, Tells}
 use Rattle.desk.specs.Laws.{Judged, refused-files, argument-fits}
 use Rattle.desk.specs.Laws.Judged.{stopped, goes}
-
--- ---- bytes
-
-every-by : {A : Type 0} (P : A → Type 0) (d : A) (l : List A) → ((k : ℕ) → P (getD l k d)) → Every P l
-every-by P d [] h = tt
-every-by P d (a ∷ l) h = (h 0, every-by P d l (λ k. h (suc k)))
-
--- the delays of an accepted case of bytes are bytes
-pub byte-delays : (cs bk : List ℕ) (C : Case) → Bytes cs → Bytes bk → files cs bk ≡ answer C → ByteDelays C
-byte-delays cs bk C p q e =
-    let h = files-small cs bk C p q e in
-    every-by (Every (λ p. p .delay ≤ 255)) [] (C .tables)
-    (λ k. every-by (λ p. p .delay ≤ 255) (record { delay = 0; weight = 0 }) (getD (C .tables) k []) (h k))
-
--- ---- the single run
+use Rattle.laying.specs.Delays.{byte-delays}
 
 -- the choice is one of the case, and the train too
 pub record Chosen (x : List ℕ) (k : ℕ) (C : Case) : Type 0 where

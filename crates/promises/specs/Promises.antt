@@ -25,9 +25,10 @@ use Rattle.theory_calls.specs.Counted.{listing-counted, figures-counted}
 use Rattle.theory_calls.specs.Promises.{run-full, listing-full, figures-full, handed-single, handed-run, handed-part, handed-figures}
 use Rattle.theory_calls.specs.Plan.{arrival-plan, arrival-window}
 use Rattle.out_listing.specs.Suffices.{listing-suffices}
-use Rattle.desk.specs.declared.Answer.{Answer}
+use Rattle.laying.specs.declared.Answer.{Answer}
 use Rattle.desk.specs.declared.TrainFigures.{TrainFigures}
-use Rattle.desk.specs.Answers.{refusedWith, answered, answerOf, singleAnswer, figuresOf, lentTwo, lentThree, Gives, GivesText, SingleGives, RunGives, ListingGives, FiguresGives}
+use Rattle.laying.specs.Answers.{refusedWith, answered, answerOf}
+use Rattle.desk.specs.Answers.{singleAnswer, figuresOf, lentTwo, lentThree, Gives, GivesText, SingleGives, RunGives, ListingGives, FiguresGives}
 use Rattle.promises.specs.Outcomes.{call-outcome, outcome-told, outcome-answers, filled-cleared, text-meant, run-answered, gives-same, gives-cleared, gives-meant, stop-in}
 
 -- ---- the single run

@@ -24,7 +24,7 @@ use Rattle.theory_passes.specs.Joint.{joint-passes}
 use Rattle.theory_passes.specs.Bounds.{Bounded, joint-bounded}
 use Rattle.entries.specs.Encoded.{Good, proper-packable}
 use Rattle.entries.specs.Agreeing.{good-every}
-use Rattle.desk.specs.Single.{byte-delays}
+use Rattle.laying.specs.Delays.{byte-delays}
 use Rattle.promises.specs.Images.{AllFilled, Shown, Weighable, rows-one, weights-one}
 
 parts-filled : (ws p : Cover) → Parts ws p → AllFilled p

@@ -25,10 +25,11 @@ use Rattle.theory_calls.specs.Decided.{Decided, stopped-decided, whole-decided,
 use Rattle.theory_calls.specs.Decided.{Decided as runs, SingleDecided as singles}
 use Rattle.theory_calls.specs.Plan.{arrival-window}
 use Rattle.theory_calls.specs.Promises.{Comes, call-comes, Comes as comes}
-use Rattle.desk.specs.declared.Answer.{Answer as Struct}
+use Rattle.laying.specs.declared.Answer.{Answer as Struct}
 use Rattle.desk.specs.declared.TrainFigures.{TrainFigures}
 use Rattle.desk.specs.declared.Viewed.{Viewed}
-use Rattle.desk.specs.Answers.{answerOf, singleAnswer, figuresOf, viewedOf}
+use Rattle.laying.specs.Answers.{answerOf}
+use Rattle.desk.specs.Answers.{singleAnswer, figuresOf, viewedOf}
 
 -- ---- the definitions
 

@@ -16,8 +16,9 @@ use Rattle.rules.specs.Program.{textFor, printed}
 use Rattle.theory_sound.specs.Places.{files-told}
 use Rattle.theory_lists.specs.Writes.{Put}
 use Rattle.out_listing.specs.Suffices.{decimal-most}
-use Rattle.desk.specs.declared.Answer.{Answer}
-use Rattle.desk.specs.Answers.{answerOf, lentThree, GivesText}
+use Rattle.laying.specs.declared.Answer.{Answer}
+use Rattle.laying.specs.Answers.{answerOf}
+use Rattle.desk.specs.Answers.{lentThree, GivesText}
 use Rattle.desk.specs.Ends.{long, call-long}
 use Rattle.shift.specs.Shift.{Prints}
 

@@ -34,12 +34,12 @@ use Rattle.theory_codes.specs.Tables.{tables}
 use Rattle.file_lookup.specs.declared.Sizes.{Sizes}
 use Rattle.weigh.specs.Weigh.{Small}
 use Rattle.theory_codes.specs.Lookups.{table-room}
-use Rattle.desk.specs.Single.{byte-delays}
+use Rattle.laying.specs.Delays.{byte-delays}
 use Rattle.visiting.specs.Visit.{Ways}
 use Rattle.entries.specs.Onward.{tables-ways}
-use Rattle.desk.specs.Tables.{tables-small}
-use Rattle.desk.specs.Steps.{Begins, Came, Ran}
-use Rattle.desk.specs.Steps.Came.{over, stands}
+use Rattle.laying.specs.Tables.{tables-small}
+use Rattle.laying.specs.Steps.{Begins, Came, Ran}
+use Rattle.laying.specs.Steps.Came.{over, stands}
 
 -- ---- a row's words
 

@@ -1,9 +1,9 @@
--- `desk::refused_files` meets its contract: each arm is a case of the files' answer. Assumes nothing.
+-- `laying::refused_files` meets its contract: each arm is a case of the files' answer. Assumes nothing.
 use mathlib.Core.Path.{ap, sym, _∙_, subst}
 use borrow.Author.Needs.{needs}
-use Rattle.desk.specs.Steps.{Tells, filesAnswer}
-use Rattle.desk.proofs.refused_files.Statement.{statement}
-use Rattle.desk.proofs.refused_files.Tie as tie
+use Rattle.laying.specs.Steps.{Tells, filesAnswer}
+use Rattle.laying.proofs.refused_files.Statement.{statement}
+use Rattle.laying.proofs.refused_files.Tie as tie
 
 enum-told : tie.Need-enum-told
 enum-told c = search needs

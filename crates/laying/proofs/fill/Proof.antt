@@ -1,7 +1,7 @@
--- `desk::fill` meets its contract: rows and weights of a run that stands in the words are filled with its images. Assumes nothing.
+-- `laying::fill` meets its contract: rows and weights of a run that stands in the words are filled with its images. Assumes nothing.
 use borrow.Author.Needs.{needs}
-use Rattle.desk.proofs.fill.Statement.{statement}
-use Rattle.desk.proofs.fill.Tie as tie
+use Rattle.laying.proofs.fill.Statement.{statement}
+use Rattle.laying.proofs.fill.Tie as tie
 
 put-rows-requires : tie.Need-put-rows-requires
 put-rows-requires c κs = search needs

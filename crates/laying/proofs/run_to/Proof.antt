@@ -1,12 +1,12 @@
--- `desk::run_to` meets its contract: the tables are the case's, and the run on them is the joint run. Assumes nothing.
+-- `laying::run_to` meets its contract: the tables are the case's, and the run on them is the joint run. Assumes nothing.
 use mathlib.Core.Path.{refl, sym, _∙_}
 use Prim.Native.Nat.{_+_, _*_}
 use native.Mathlib.Omega.{arith}
 use lib.Seq.{length-take-le}
-use Rattle.desk.specs.Rows.{room-few, stop-few, small-tables, ways-tables, run-ran}
+use Rattle.laying.specs.Rows.{room-few, stop-few, small-tables, ways-tables, run-ran}
 use borrow.Author.Needs.{needs}
-use Rattle.desk.proofs.run_to.Statement.{statement}
-use Rattle.desk.proofs.run_to.Tie as tie
+use Rattle.laying.proofs.run_to.Statement.{statement}
+use Rattle.laying.proofs.run_to.Tie as tie
 
 fill-requires : tie.Need-fill-requires
 fill-requires c κs = search needs

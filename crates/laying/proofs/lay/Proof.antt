@@ -1,11 +1,11 @@
--- `desk::lay` meets its contract: each return is one of the ways in which a run ends. Assumes nothing.
+-- `laying::lay` meets its contract: each return is one of the ways in which a run ends. Assumes nothing.
 use mathlib.Core.Path.{subst}
 use native.Mathlib.Omega.{arith}
-use Rattle.desk.specs.Steps.{Start}
-use Rattle.desk.specs.Laws.{start-tells, laid-refused, laid-over, laid-stands, ran-few}
+use Rattle.laying.specs.Steps.{Start}
+use Rattle.laying.specs.Laws.{start-tells, laid-refused, laid-over, laid-stands, ran-few}
 use borrow.Author.Needs.{needs}
-use Rattle.desk.proofs.lay.Statement.{statement}
-use Rattle.desk.proofs.lay.Tie as tie
+use Rattle.laying.proofs.lay.Statement.{statement}
+use Rattle.laying.proofs.lay.Tie as tie
 
 enum-known-f : tie.Need-enum-known-f
 enum-known-f c = search needs
