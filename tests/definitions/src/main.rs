@@ -1,6 +1,6 @@
-//! The program `definitions FOLDER`: reads the second program's vectors from standard input and writes a crate `vectors` into
-//! FOLDER/crates/vectors whose theorems say that the definitions, computed on the same bytes, give the same answers.
-//! There is one theorem a vector and ten inputs a file, so that a difference is named by its file and line.
+//! The program `definitions FOLDER`: reads the second program's vectors from standard input and writes the crates `vectors_even` and `vectors_odd` into
+//! FOLDER/crates, whose theorems say that the definitions, computed on the same bytes, give the same answers. The inputs go into them by turns, so that
+//! the prover computes two at a time. There is one theorem a vector and ten inputs a file, so that a difference is named by its file and line.
 
 use std::fmt::Write as _;
 use std::fs;
@@ -23,6 +23,9 @@ const OPENED: [(&str, &str); 7] = [
 const FLOATS: &str = "div, ofInt, round, size, span, climb, units, odd, toBits";
 
 const ASKED: &str = "reading, single, run, listing, punctual";
+
+/// The crates that are written, the inputs by turns.
+const CRATES: [&str; 2] = ["vectors_even", "vectors_odd"];
 
 /// One question with its expected answer, both as antt text.
 struct Statement {
@@ -47,22 +50,30 @@ fn main() -> ExitCode {
     }
 }
 
-/// Writes the crate and says how many vectors it has.
+/// Writes the crates and says how many vectors they have.
 fn weave(folder: &Path) -> io::Result<usize> {
     let inputs = read_inputs()?;
-    let specs = folder.join("crates/vectors/specs");
+    for (turn, name) in CRATES.iter().enumerate() {
+        let part: Vec<&Vec<Statement>> = inputs.iter().skip(turn).step_by(CRATES.len()).collect();
+        weave_crate(&folder.join("crates").join(name), name, &part)?;
+    }
+    Ok(inputs.iter().map(Vec::len).sum())
+}
+
+/// Writes one crate.
+fn weave_crate(folder: &Path, of: &str, inputs: &[&Vec<Statement>]) -> io::Result<()> {
+    let specs = folder.join("specs");
     fs::create_dir_all(&specs)?;
-    fs::create_dir_all(folder.join("crates/vectors/src"))?;
-    fs::write(folder.join("crates/vectors/src/lib.rt"), "")?;
+    fs::create_dir_all(folder.join("src"))?;
+    fs::write(folder.join("src/lib.rt"), "")?;
     fs::write(specs.join("Asked.antt"), include_str!("asked.txt"))?;
     let mut modules = String::from("pub mod Asked\n");
     for (number, inputs) in inputs.chunks(10).enumerate() {
         let name = format!("Inputs{number}");
         writeln!(modules, "pub mod {name}").expect("a string takes all");
-        fs::write(specs.join(format!("{name}.antt")), module_text(inputs))?;
+        fs::write(specs.join(format!("{name}.antt")), module_text(of, inputs))?;
     }
-    fs::write(specs.join("Lib.antt"), modules)?;
-    Ok(inputs.iter().map(Vec::len).sum())
+    fs::write(specs.join("Lib.antt"), modules)
 }
 
 /// Reads the vectors: an input starts with its `reading` or `accepted` line.
@@ -259,13 +270,13 @@ fn list(numbers: &[u64]) -> String {
     text
 }
 
-/// A module with one theorem a vector.
-fn module_text(inputs: &[Vec<Statement>]) -> String {
+/// A module of a crate with one theorem a vector.
+fn module_text(of: &str, inputs: &[&Vec<Statement>]) -> String {
     let mut text = String::from("use mathlib.Core.Path.{_≡_, refl}\nuse mathlib.Core.List.{List, [], _∷_}\nuse Prim.Native.Nat.{ℕ}\n");
     let mut opened = format!("{ASKED}, {FLOATS}");
     writeln!(
         text,
-        "use lib.Ieee.{{{FLOATS}}}\nuse Rattle.vectors.specs.Asked.{{{ASKED}}}"
+        "use lib.Ieee.{{{FLOATS}}}\nuse Rattle.{of}.specs.Asked.{{{ASKED}}}"
     )
     .expect("a string takes all");
     for (module, names) in OPENED {
@@ -277,8 +288,8 @@ fn module_text(inputs: &[Vec<Statement>]) -> String {
     }
     let opened = opened.replace(", ", " ");
     for (number, input) in inputs.iter().enumerate() {
-        for (of, Statement { question, answer }) in input.iter().enumerate() {
-            let name = format!("input{number}-vector{of}");
+        for (vector, Statement { question, answer }) in input.iter().enumerate() {
+            let name = format!("input{number}-vector{vector}");
             writeln!(
                 text,
                 "\n{name} : {question} ≡ {answer}\nunfolding {opened}\n{name} = refl"
