@@ -25,7 +25,7 @@ use Rattle.file_lookup.specs.declared.Files.the-variants as told
 use Rattle.file_lookup.specs.Answers.{sizesOf, filesOf}
 use Rattle.file_lookup.specs.Laws.{sound-unsound}
 use Rattle.file_arguments.specs.Arguments.{forSingle}
-use Rattle.single.specs.Words.{Small}
+use Rattle.moving.specs.Words.{Small}
 use Rattle.single.specs.Runs.{Arrives}
 use Rattle.single.specs.Low.{words-small, tables-last}
 use Rattle.laying.specs.declared.Answer.{Answer}

@@ -26,7 +26,7 @@ use Rattle.theory_codes.specs.Tables.{nextCode, tables}
 use Rattle.theory_codes.specs.Places.{place-code, same-element, head-code, known-coded, known-few}
 use Rattle.theory_passes.specs.Elements.{ahead-known}
 use Rattle.theory_passes.specs.Passes.{admits}
-use Rattle.single.specs.Words.{wanted, holding, crowd, lets}
+use Rattle.moving.specs.Words.{wanted, holding, crowd, lets}
 use Rattle.theory_codes.specs.Lookups.{table-trains, table-last, table-capacity}
 use Rattle.single.specs.Looks.{look-next}
 use Rattle.single.specs.Sums.{sum-below}

@@ -9,7 +9,7 @@ use lib.ListN.{length, getD, set, length-set}
 use lib.Seq.{getD-set-same, getD-set-other}
 use lib.Dec.{ltb, eqb}
 use borrow.Author.Tests.{lt-ltb, le-ltb}
-use Rattle.single.specs.Words.{leftIn, stoodIn, arrivedIn, enteredIn}
+use Rattle.moving.specs.Words.{leftIn, stoodIn, arrivedIn, enteredIn}
 
 module _ (T : List ℕ) (t k : ℕ) (w : List ℕ) where
   -- ---- leaving

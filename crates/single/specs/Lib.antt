@@ -1,5 +1,3 @@
-pub mod Words
-pub mod Turns
 pub mod Looks
 pub mod Sums
 pub mod Skips

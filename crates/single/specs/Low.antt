@@ -23,7 +23,7 @@ use Rattle.theory_codes.specs.Tables.{order, headCode, nextCode, stayOn, perTra
 use Rattle.theory_passes.specs.Order.{order-known}
 use Rattle.theory_passes.specs.Elements.{ahead-known}
 use Rattle.theory_passes.specs.Bounds.{ByteDelays, arrival-low, delay-low}
-use Rattle.single.specs.Words.{Small}
+use Rattle.moving.specs.Words.{Small}
 use Rattle.theory_codes.specs.Places.{known-few}
 use Rattle.theory_codes.specs.Lookups.{table-minute}
 use Rattle.single.specs.Asking.{last-known}

@@ -26,7 +26,7 @@ use Rattle.theory_passes.specs.Order.{order-known, order-length}
 use Rattle.theory_lists.specs.Folds.{fold-map, fold-keeps}
 use Rattle.theory_passes.specs.Passes.{goes, passTrain, cleared, elementPasses, minutePasses, minutesPasses, singlePasses}
 use Rattle.theory_passes.specs.Single.{InOrder, passTrain-orderly, cleared-orderly, arrival-passes}
-use Rattle.single.specs.Words.{runSize, orderIn, servedIn, elementIn, minuteIn, startIn, soughtIn, answerIn}
+use Rattle.moving.specs.Words.{runSize, orderIn, servedIn, elementIn, minuteIn, startIn, soughtIn, answerIn}
 use Rattle.theory_lists.specs.Below.{getD-below}
 use Rattle.theory_codes.specs.Lookups.{table-trains, table-minute, table-order}
 use Rattle.single.specs.Sums.{orElse, minuteOf-append}

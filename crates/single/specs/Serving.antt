@@ -23,7 +23,7 @@ use Rattle.theory_codes.specs.Codes.{placeOf}
 use Rattle.theory_codes.specs.Tables.{stayOn, tables}
 use Rattle.theory_passes.specs.Passes.{admits, passTrain}
 use Rattle.theory_passes.specs.Single.{InOrder}
-use Rattle.single.specs.Words.{enteredIn, servedIn}
+use Rattle.moving.specs.Words.{enteredIn, servedIn}
 use Rattle.theory_codes.specs.Places.{same-codes}
 use Rattle.theory_codes.specs.Lookups.{table-safety}
 use Rattle.single.specs.Looks.{look-stay}

@@ -17,7 +17,7 @@ use Rattle.rules.specs.Single.{minuteOf}
 use Rattle.theory_lists.specs.Sums.{sum-keep}
 use Rattle.theory_codes.specs.Codes.{placeOf}
 use Rattle.theory_passes.specs.Passes.{cleared}
-use Rattle.single.specs.Words.{runSize}
+use Rattle.moving.specs.Words.{runSize}
 use Rattle.single.specs.Sums.{sum-below}
 
 -- the mark of train k, standing

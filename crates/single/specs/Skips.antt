@@ -10,8 +10,8 @@ use lib.Dec.{leb, ltb, eqb}
 use borrow.Author.Tests.{leb-true, leb-false, ltb-true, ltb-false, eqb-true, eqb-false, le-leb, lt-leb, lt-ltb, le-ltb, eq-eqb}
 use Rattle.rules.specs.Lists.{tick, fold, span}
 use Rattle.theory_codes.specs.Codes.{nowhere}
-use Rattle.single.specs.Words.{trainsIn, orderIn, wanted, holding, crowd, lets, enteredIn, servedIn, elementIn, minuteIn, later, freedIn, readyIn, nextIn, soughtIn}
-use Rattle.single.specs.Turns.{least-most, least-each, least-from, fold-stays, sought-next, sought-end}
+use Rattle.moving.specs.Words.{trainsIn, orderIn, wanted, holding, crowd, lets, enteredIn, servedIn, elementIn, minuteIn, later, freedIn, readyIn, nextIn, soughtIn}
+use Rattle.moving.specs.Turns.{least-most, least-each, least-from, fold-stays, sought-next, sought-end}
 use Rattle.single.specs.Sums.{sum-below}
 
 -- the later of two is at least each, and at most what both are

@@ -23,7 +23,7 @@ use Rattle.theory_simulation.specs.Start.{choice-at}
 use Rattle.theory_simulation.specs.Choices.{unbroken-choice}
 use Rattle.theory_codes.specs.Codes.{placeOf}
 use Rattle.theory_codes.specs.Tables.{tables}
-use Rattle.single.specs.Words.{runSize, waitsIn, startIn}
+use Rattle.moving.specs.Words.{runSize, waitsIn, startIn}
 use Rattle.theory_codes.specs.Lookups.{table-first}
 use Rattle.single.specs.Looks.{look-delay}
 use Rattle.single.specs.Sums.{sum-below}

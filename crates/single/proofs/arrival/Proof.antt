@@ -3,7 +3,7 @@ use mathlib.Core.Path.{ap, _∙_}
 use mathlib.Core.List.{List}
 use Prim.Native.Nat.{ℕ, suc}
 use lib.ListN.{getD}
-use Rattle.single.specs.Words.{soughtIn, answerIn}
+use Rattle.moving.specs.Words.{soughtIn, answerIn}
 use Rattle.single.specs.Runs.{answer-arrival}
 use borrow.Author.Needs.{needs}
 use Rattle.single.proofs.arrival.Statement.{statement}

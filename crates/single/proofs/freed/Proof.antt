@@ -5,7 +5,7 @@ use native.Mathlib.Omega.{arith}
 use lib.ListN.{getD}
 use Rattle.rules.specs.Lists.{fold, below}
 use Rattle.words.specs.Spans.{onward, fold-all, fold-next, fold-end}
-use Rattle.single.specs.Words.{nearer, freedIn}
+use Rattle.moving.specs.Words.{nearer, freedIn}
 use borrow.Author.Needs.{needs}
 use Rattle.single.proofs.freed.Statement.{statement}
 use Rattle.single.proofs.freed.Tie as tie

@@ -4,7 +4,7 @@ use Prim.Native.Nat.{ℕ, _+_, _-_, _≤_}
 use native.Mathlib.Omega.{arith}
 use Rattle.rules.specs.Lists.{fold, below}
 use Rattle.words.specs.Spans.{onward, fold-all, fold-next, fold-end}
-use Rattle.single.specs.Words.{orderIn, readyIn, nextIn}
+use Rattle.moving.specs.Words.{orderIn, readyIn, nextIn}
 use Rattle.single.specs.Skips.{ready-waits}
 use borrow.Author.Needs.{needs}
 use Rattle.single.proofs.next.Statement.{statement}

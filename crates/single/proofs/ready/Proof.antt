@@ -1,7 +1,7 @@
 -- `single::ready` meets its contract: a train that is due asks for its next element, and if it is held, waits for the end of a block. Assumes nothing.
 use mathlib.Core.Path.{sym, ap, _∙_}
 use borrow.Author.Tests.{lt-ltb, le-ltb}
-use Rattle.single.specs.Words.{later, readyIn}
+use Rattle.moving.specs.Words.{later, readyIn}
 use borrow.Author.Needs.{needs}
 use Rattle.single.proofs.ready.Statement.{statement}
 use Rattle.single.proofs.ready.Tie as tie

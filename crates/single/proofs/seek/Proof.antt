@@ -3,8 +3,8 @@ use mathlib.Core.Path.{_≡_, sym, ap, _∙_}
 use Prim.Native.Nat.{ℕ, suc, _+_, _-_, _≤_}
 use native.Mathlib.Omega.{arith}
 use lib.ListN.{length}
-use Rattle.single.specs.Words.{soughtIn}
-use Rattle.single.specs.Turns.{sought-whole, sought-found, sought-later, sought-end}
+use Rattle.moving.specs.Words.{soughtIn}
+use Rattle.moving.specs.Turns.{sought-whole, sought-found, sought-later, sought-end}
 use Rattle.single.specs.Skips.{next-from, sought-jump}
 use borrow.Author.Needs.{needs}
 use Rattle.single.proofs.seek.Statement.{statement}

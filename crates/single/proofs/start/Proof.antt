@@ -5,7 +5,7 @@ use native.Mathlib.Omega.{arith}
 use lib.ListN.{length, getD}
 use Rattle.rules.specs.Lists.{fold, below}
 use Rattle.words.specs.Spans.{onward, fold-all, fold-next, fold-end}
-use Rattle.single.specs.Words.{waitsIn, startIn}
+use Rattle.moving.specs.Words.{waitsIn, startIn}
 use borrow.Author.Needs.{needs}
 use Rattle.single.proofs.start.Statement.{statement}
 use Rattle.single.proofs.start.Tie as tie

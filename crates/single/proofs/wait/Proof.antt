@@ -2,7 +2,7 @@
 use mathlib.Core.Path.{sym}
 use Prim.Native.Nat.{_+_, _*_}
 use native.Mathlib.Omega.{arith}
-use Rattle.single.specs.Words.{waitsIn}
+use Rattle.moving.specs.Words.{waitsIn}
 use borrow.Author.Needs.{needs}
 use Rattle.single.proofs.wait.Statement.{statement}
 use Rattle.single.proofs.wait.Tie as tie

@@ -1,0 +1,178 @@
+// A minute of the single run of one choice of delays on words: where each train is, when it is due, when it arrived, and what it blocks.
+ghost use mathlib.Core.Path.{_≡_};
+ghost use Prim.Native.Nat.{_≤_, _<_};
+ghost use Rattle.moving.specs.Words.{Small, wanted, holding, crowd, lets, leftIn, stoodIn, arrivedIn, enteredIn, servedIn, elementIn, minuteIn, nearestIn};
+
+// The code of the element that train k asks for in minute t, 127 for none.
+pub fn wanted(tables: &[u64], run: &[u64], t: u64, k: u64) -> u64
+    requires { ⌜ k < 4294967296 ⌝ }
+    ensures { λ r. ⌜ r ≡ wanted (now (tables .entry)) t (now (run .entry)) k ⌝ }
+{
+    let p = words::at(run, k);
+    if p < 128 {
+        if words::at(run, 8 + k) <= t {
+            return words::at(tables, 240 + k * 128 + p);
+        }
+        return 127;
+    }
+    127
+}
+
+// Whether train k stands on e, and whether it blocks e in minute t.
+fn holding(run: &[u64], t: u64, e: u64, k: u64) -> u64
+    requires { ⌜ (k < 4294967296) × (e < 65) ⌝ }
+    ensures { λ r. ⌜ (r ≡ holding t e (now (run .entry)) k) × (r ≤ 2) ⌝ }
+{
+    let end = words::at(run, 24 + e * 8 + k);
+    if words::at(run, k) == e {
+        if t < end {
+            return 2;
+        }
+        return 1;
+    }
+    if t < end {
+        return 1;
+    }
+    0
+}
+
+// How many trains stand on or block e in minute t.
+fn crowd(tables: &[u64], run: &[u64], t: u64, e: u64) -> u64
+    requires { ⌜ Small (now tables) × (e < 65) ⌝ }
+    ensures { λ r. ⌜ r ≡ crowd (now (tables .entry)) t e (now (run .entry)) ⌝ }
+{
+    let n = words::at(tables, 0);
+    let mut count: u64 = 0;
+    let mut k: u64 = 0;
+    while k < n {
+        count += holding(run, t, e, k);
+        k += 1;
+    }
+    count
+}
+
+// Whether e lets one more train in; the way out has no limit.
+pub fn lets(tables: &[u64], run: &[u64], t: u64, e: u64) -> bool
+    requires { ⌜ Small (now tables) × (e < 65) ⌝ }
+    ensures { λ r. ⌜ r ≡ lets (now (tables .entry)) t e (now (run .entry)) ⌝ }
+{
+    if e == 64 {
+        return true;
+    }
+    crowd(tables, run, t, e) < words::at(tables, 176 + e)
+}
+
+// Train k blocks the element that it leaves, through the safety time; nothing outside is blocked.
+fn leave(tables: &[u64], run: &mut [u64], t: u64, k: u64)
+    requires { ⌜ Small (now tables) × (k < 4294967296) × (t < 65536) ⌝ }
+    ensures { λ _. ⌜ now (run .exit) ≡ leftIn (now (tables .entry)) t k (now (run .entry)) ⌝ }
+{
+    let p = words::at(run, k);
+    if p < 65 {
+        let end = t + words::at(tables, 2);
+        words::put(run, 24 + p * 8 + k, end + 1);
+    }
+}
+
+// Train k stands on e until it is due again.
+fn stand(tables: &[u64], run: &mut [u64], t: u64, e: u64, k: u64)
+    requires { ⌜ Small (now tables) × (k < 4294967296) × (t < 65536) × (e < 65) ⌝ }
+    ensures { λ _. ⌜ now (run .exit) ≡ stoodIn (now (tables .entry)) t e k (now (run .entry)) ⌝ }
+{
+    let due = t + words::at(tables, 1264 + k * 128 + e);
+    words::put(run, k, e);
+    words::put(run, 8 + k, due);
+}
+
+// Train k arrives, if e is its last station.
+fn arrive(tables: &[u64], run: &mut [u64], t: u64, e: u64, k: u64)
+    requires { ⌜ (k < 4294967296) × (t < 65536) ⌝ }
+    ensures { λ _. ⌜ now (run .exit) ≡ arrivedIn (now (tables .entry)) t e k (now (run .entry)) ⌝ }
+{
+    let goal = words::at(tables, 16 + k);
+    if goal == e {
+        let before = words::at(run, 16 + k);
+        if before == 0 {
+            words::put(run, 16 + k, t + 1);
+        }
+    }
+}
+
+// Train k enters e.
+fn enter(tables: &[u64], run: &mut [u64], t: u64, e: u64, k: u64)
+    requires { ⌜ Small (now tables) × (k < 4294967296) × (t < 65536) × (e < 65) ⌝ }
+    ensures { λ _. ⌜ now (run .exit) ≡ enteredIn (now (tables .entry)) t e k (now (run .entry)) ⌝ }
+{
+    leave(tables, run, t, k);
+    stand(tables, run, t, e, k);
+    arrive(tables, run, t, e, k);
+}
+
+// Train k enters e, if it asks for it and is let in.
+fn serve(tables: &[u64], run: &mut [u64], t: u64, e: u64, k: u64)
+    requires { ⌜ Small (now tables) × (k < 4294967296) × (t < 65536) × (e < 65) ⌝ }
+    ensures { λ _. ⌜ now (run .exit) ≡ servedIn (now (tables .entry)) t e k (now (run .entry)) ⌝ }
+{
+    let w = wanted(tables, run, t, k);
+    if w == e {
+        if lets(tables, run, t, e) {
+            enter(tables, run, t, e, k);
+        }
+    }
+}
+
+// The trains that ask for e are served in order.
+fn element(tables: &[u64], run: &mut [u64], t: u64, e: u64)
+    requires { ⌜ Small (now tables) × (t < 65536) × (e < 65) ⌝ }
+    ensures { λ _. ⌜ now (run .exit) ≡ elementIn (now (tables .entry)) t e (now (run .entry)) ⌝ }
+{
+    let n = words::at(tables, 0);
+    let mut i: u64 = 0;
+    while i < n {
+        let k = words::at(tables, 8 + i);
+        serve(tables, run, t, e, k);
+        i += 1;
+    }
+}
+
+// The nearest of an element q and the best so far, among those from e on.
+pub fn nearer(e: u64, q: u64, best: u64) -> u64
+    ensures { λ r. ⌜ r ≡ Rattle.moving.specs.Words.nearer e q best ⌝ }
+{
+    if e <= q {
+        if q < best {
+            return q;
+        }
+        return best;
+    }
+    best
+}
+
+// The nearest element from e on that some train asks for, 65 for none.
+fn nearest(tables: &[u64], run: &[u64], t: u64, e: u64) -> u64
+    requires { ⌜ Small (now tables) ⌝ }
+    ensures { λ r. ⌜ r ≡ nearestIn (now (tables .entry)) t (now (run .entry)) e ⌝ }
+{
+    let n = words::at(tables, 0);
+    let mut best: u64 = 65;
+    let mut i: u64 = 0;
+    while i < n {
+        let k = words::at(tables, 8 + i);
+        let q = wanted(tables, run, t, k);
+        best = nearer(e, q, best);
+        i += 1;
+    }
+    best
+}
+
+// Minute t: the elements that are asked for, by rising code.
+pub fn minute(tables: &[u64], run: &mut [u64], t: u64)
+    requires { ⌜ Small (now tables) × (t < 65536) ⌝ }
+    ensures { λ _. ⌜ now (run .exit) ≡ minuteIn (now (tables .entry)) t (now (run .entry)) ⌝ }
+{
+    let mut e = nearest(tables, run, t, 0);
+    while e < 65 {
+        element(tables, run, t, e);
+        e = nearest(tables, run, t, e + 1);
+    }
+}
