@@ -1,64 +1,24 @@
 -- What the exported functions answer and leave in lent memory: the C structs of the answers of 01, field by field, and the contract of each function
 -- under a name of its own. Assumes nothing: these are definitions.
 use mathlib.Core.Path.{_≡_}
-use mathlib.Core.List.{List, [], _∷_}
+use mathlib.Core.List.{List, []}
 use mathlib.Core.Option.{Option}
 use Prim.Native.Nat.{ℕ}
 use Rattle.rules.specs.Refusals.{Result}
 use Rattle.rules.specs.Viewer.{viewed}
 use Rattle.rules.specs.Calls.{Memory, Lent, singleRun, runCall, listingCall, figuresCall}
-use Rattle.rules.specs.Figures as rules
 use Rattle.rules.specs.Answers as answers
-use Rattle.out_figures.specs.declared.Figures.{Figures}
-use Rattle.out_figures.specs.Answers.{caseOf}
 use Rattle.laying.specs.declared.Answer.{Answer}
-use Rattle.desk.specs.declared.TrainFigures.{TrainFigures}
+use Rattle.telling.specs.declared.TrainFigures.{TrainFigures}
 use Rattle.desk.specs.declared.Viewed.{Viewed}
 use Rattle.laying.specs.Answers.{structOf, answerOf}
+use Rattle.telling.specs.Answers.{figuresOf}
 
 -- ---- the single run
 
 -- minute of arrival, or 65,535
 abbrev pub singleAnswer : Result (Option ℕ) → Answer
 singleAnswer r = structOf (answers.minuteAnswer r)
-
--- ---- the figures
-
--- the struct of the figures' answer; two fields of it are always 0
-abbrev pub figuresStruct : answers.FiguresAnswer → TrainFigures
-figuresStruct a = record {
-  refusal = a .refusal;
-  file = a .file;
-  place = a .place;
-  punctuality = a .punctuality;
-  zero = 0;
-  share = a .share;
-  «on_time» = a .onTime;
-  late = a .late;
-  «not_arrived» = a .notArrived;
-  lateness = a .lateness;
-  arrived = a .arrived;
-  kept = 0 ∷ 0 ∷ 0 ∷ 0 ∷ [];
-}
-
--- all 0 but the refusal, or the figures
-abbrev pub figuresOf : Result rules.Figures → TrainFigures
-figuresOf r = figuresStruct (answers.figuresAnswer r)
-
--- the program's figures beside the refusal of an answer
-abbrev pub trainFigures : Answer → Figures → TrainFigures
-trainFigures a f = figuresStruct (record {
-  refusal = a .refusal;
-  file = a .file;
-  place = a .place;
-  punctuality = answers.punctualityNumber (caseOf (f .punctuality));
-  share = answers.punctualityValue (caseOf (f .punctuality));
-  onTime = f .shares .«on_time»;
-  late = f .shares .late;
-  notArrived = f .shares .«not_arrived»;
-  lateness = f .sum;
-  arrived = f .weight;
-})
 
 -- ---- the field viewer
 

@@ -17,9 +17,10 @@ use Rattle.out_figures.specs.declared.Figures.{Figures}
 use Rattle.out_figures.specs.Answers.{figuresAnswer, noFigures}
 use Rattle.out_figures.specs.Laws.{case-of}
 use Rattle.laying.specs.declared.Answer.{Answer}
-use Rattle.desk.specs.declared.TrainFigures.{TrainFigures}
+use Rattle.telling.specs.declared.TrainFigures.{TrainFigures}
 use Rattle.laying.specs.Answers.{refusedWith, answered, answerOf}
-use Rattle.desk.specs.Answers.{trainFigures, figuresOf, lentTwo, lentThree, Gives, GivesText}
+use Rattle.telling.specs.Answers.{trainFigures, figuresOf}
+use Rattle.desk.specs.Answers.{lentTwo, lentThree, Gives, GivesText}
 use Rattle.laying.specs.Steps.{entries, rowsAfter, weightsAfter, InWords, Laid}
 
 -- ---- lent memory

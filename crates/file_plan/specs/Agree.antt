@@ -27,8 +27,8 @@ use Rattle.file_fields.specs.Fields.{past}
 use Rattle.file_lookup.specs.declared.Sizes.{Sizes}
 use Rattle.file_lookup.specs.Answers.{sizesOf}
 use Rattle.theory_lists.specs.Below.{getD-below, length-span-map}
-use Rattle.file_plan.specs.Model.{tracksFrom, walkNext, walkStay, firstStation, nextRow, stayRow, orderBy, priorityOf, headPart, trainRow, trainPart, pairPart, capacityPart, nextPart, stayPart, trackPlace, trainPlace, allParts}
-use Rattle.file_plan.specs.Walks.{walkNext-length, walkStay-length}
+use Rattle.file_tables.specs.Model.{tracksFrom, walkNext, walkStay, firstStation, nextRow, stayRow, orderBy, priorityOf, headPart, trainRow, trainPart, pairPart, capacityPart, nextPart, stayPart, trackPlace, trainPlace, allParts}
+use Rattle.file_tables.specs.Walks.{walkNext-length, walkStay-length}
 use Rattle.file_plan.specs.Ways.{next-at, next-outside, stay-at, stay-outside, start-low, start-high}
 use Rattle.file_plan.specs.Decoded.{Decoded, decoded}
 use Rattle.file_plan.specs.Parts.{count, few, train-at, train-none, rows-of, one-value, order-part, last-part, plan-part, first-part, number-part, delays-part, weights-part, capacities-part}

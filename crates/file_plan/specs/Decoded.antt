@@ -11,8 +11,8 @@ use Rattle.theory_sound.specs.Facts.{Sound}
 use Rattle.theory_sound.specs.Accepted.{Reads, accepted-reads, accepted-sound}
 use Rattle.file_fields.specs.Fields.{past}
 use Rattle.file_lookup.specs.Tables.{table-pairs}
-use Rattle.file_plan.specs.Model.{gather, tracksFrom, trainIn, tableIn, trackPlace, trainPlace}
-use Rattle.file_plan.specs.Fills.{length-gather}
+use Rattle.file_tables.specs.Model.{gather, tracksFrom, trainIn, tableIn, trackPlace, trainPlace}
+use Rattle.file_tables.specs.Fills.{length-gather}
 use Rattle.file_plan.specs.Layout.{HeadAt, stationIn, Laid, case-laid}
 
 pub record Decoded (cs bk : List ℕ) (C : Case) (s r n : ℕ) : Type 0 where

@@ -20,8 +20,8 @@ use Rattle.theory_sound.specs.Kept.{head-first}
 use Rattle.file_fields.specs.Fields.{past}
 use Rattle.file_fields.specs.At.{byte-part, size-here, body-here}
 use Rattle.file_reader.specs.Along.{read-along}
-use Rattle.file_plan.specs.Model.{onward, gather, trackIn, tracksFrom, stopIn, stopsAt, trainIn, trackPlace, trainPlace}
-use Rattle.file_plan.specs.Fills.{onward-more, gather-more}
+use Rattle.file_tables.specs.Model.{onward, gather, trackIn, tracksFrom, stopIn, stopsAt, trainIn, trackPlace, trainPlace}
+use Rattle.file_tables.specs.Fills.{onward-more, gather-more}
 
 -- ---- what a body says is what the file says there
 

@@ -1,7 +1,3 @@
-pub mod Lists
-pub mod Model
-pub mod Fills
-pub mod Walks
 pub mod Layout
 pub mod Ways
 pub mod Decoded

@@ -22,8 +22,8 @@ use Rattle.file_fields.specs.Fields.{past}
 use Rattle.file_fields.specs.At.{byte-drop}
 use Rattle.theory_sound.specs.Bodies.{pairs-count}
 use Rattle.theory_lists.specs.Below.{getD-below, length-span-map}
-use Rattle.file_plan.specs.Model.{onward, gather, rows, trackIn, trainIn, stopWord, pairsIn, tableIn, trainWord, pairWord, pairRow, capacityWord, priorityOf, insertBy, orderBy, trainRow, pairPart, capacityPart, trackPlace, trainPlace}
-use Rattle.file_plan.specs.Fills.{length-gather, getD-gather, onward-zero, order-length, pad-length}
+use Rattle.file_tables.specs.Model.{onward, gather, rows, trackIn, trainIn, stopWord, pairsIn, tableIn, trainWord, pairWord, pairRow, capacityWord, priorityOf, insertBy, orderBy, trainRow, pairPart, capacityPart, trackPlace, trainPlace}
+use Rattle.file_tables.specs.Fills.{length-gather, getD-gather, onward-zero, order-length, pad-length}
 use Rattle.file_plan.specs.Layout.{stationIn, onward-add, span-gather}
 use Rattle.file_plan.specs.Decoded.{Decoded, gather-map}
 

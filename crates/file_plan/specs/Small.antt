@@ -14,7 +14,7 @@ use Rattle.rules.specs.Single.{pairAt}
 use Rattle.rules.specs.Promised.{Bytes}
 use Rattle.file_fields.specs.Fields.{past, whole, bodyAt}
 use Rattle.file_lookup.specs.Lookup.{tablePlace, tableBytes}
-use Rattle.file_plan.specs.Model.{onward, tableIn, pairsIn, pairWord, trainPlace}
+use Rattle.file_tables.specs.Model.{onward, tableIn, pairsIn, pairWord, trainPlace}
 use Rattle.file_plan.specs.Decoded.{Decoded, decoded}
 use Rattle.file_plan.specs.Parts.{pairs-none, delay-word}
 

@@ -15,7 +15,7 @@ use Rattle.theory_sound.specs.Ways.{same-true, same-self, Off, Apart}
 use Rattle.theory_codes.specs.Codes.{codeOf, placeOf, nowhere}
 use Rattle.theory_codes.specs.Places.{Coded, coded-few, place-code, code-place, outside-code}
 use Rattle.theory_codes.specs.Tables.{headCode}
-use Rattle.file_plan.specs.Model.{trackCode, walkNext, walkStay, firstStation}
+use Rattle.file_tables.specs.Model.{trackCode, walkNext, walkStay, firstStation}
 
 -- ---- places and their codes
 

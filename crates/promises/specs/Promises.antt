@@ -26,9 +26,10 @@ use Rattle.theory_calls.specs.Promises.{run-full, listing-full, figures-full, h
 use Rattle.theory_calls.specs.Plan.{arrival-plan, arrival-window}
 use Rattle.out_listing.specs.Suffices.{listing-suffices}
 use Rattle.laying.specs.declared.Answer.{Answer}
-use Rattle.desk.specs.declared.TrainFigures.{TrainFigures}
+use Rattle.telling.specs.declared.TrainFigures.{TrainFigures}
 use Rattle.laying.specs.Answers.{refusedWith, answered, answerOf}
-use Rattle.desk.specs.Answers.{singleAnswer, figuresOf, lentTwo, lentThree, Gives, GivesText, SingleGives, RunGives, ListingGives, FiguresGives}
+use Rattle.telling.specs.Answers.{figuresOf}
+use Rattle.desk.specs.Answers.{singleAnswer, lentTwo, lentThree, Gives, GivesText, SingleGives, RunGives, ListingGives, FiguresGives}
 use Rattle.promises.specs.Outcomes.{call-outcome, outcome-told, outcome-answers, filled-cleared, text-meant, run-answered, gives-same, gives-cleared, gives-meant, stop-in}
 
 -- ---- the single run

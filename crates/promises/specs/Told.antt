@@ -26,10 +26,11 @@ use Rattle.theory_calls.specs.Decided.{Decided as runs, SingleDecided as single
 use Rattle.theory_calls.specs.Plan.{arrival-window}
 use Rattle.theory_calls.specs.Promises.{Comes, call-comes, Comes as comes}
 use Rattle.laying.specs.declared.Answer.{Answer as Struct}
-use Rattle.desk.specs.declared.TrainFigures.{TrainFigures}
+use Rattle.telling.specs.declared.TrainFigures.{TrainFigures}
 use Rattle.desk.specs.declared.Viewed.{Viewed}
 use Rattle.laying.specs.Answers.{answerOf}
-use Rattle.desk.specs.Answers.{singleAnswer, figuresOf, viewedOf}
+use Rattle.telling.specs.Answers.{figuresOf}
+use Rattle.desk.specs.Answers.{singleAnswer, viewedOf}
 
 -- ---- the definitions
 

@@ -2,7 +2,7 @@
 use mathlib.Core.Path.{sym, _∙_}
 use Rattle.desk.specs.Laws.{whole-starts, whole-runs}
 use Rattle.theory_sound.specs.Runs.{whole-answer}
-use Rattle.desk.specs.Answered.{printable, printed-listing}
+use Rattle.telling.specs.Answered.{printable, printed-listing}
 use Rattle.desk.specs.Ends.{short-rows, short-weights, short-text, long, laid-stood, listing-short, listing-refused, listing-printed}
 use borrow.Author.Needs.{needs}
 use Rattle.desk.proofs.lampreysong_listing.Statement.{statement}

@@ -4,9 +4,9 @@ use borrow.Author.Needs.{needs}
 use mathlib.Core.Path.{refl, _∙_, ap, ap₂}
 use mathlib.Core.List.{_++_}
 use lib.ListN.{length}
-use Rattle.file_plan.specs.Model.{tracksFrom, trackPlace, trainPlace}
-use Rattle.file_plan.specs.Fills.{front-part-length, capacity-part-length, three-parts}
-use Rattle.file_plan.specs.Walks.{way-part-length}
+use Rattle.file_tables.specs.Model.{tracksFrom, trackPlace, trainPlace}
+use Rattle.file_tables.specs.Fills.{front-part-length, capacity-part-length, three-parts}
+use Rattle.file_tables.specs.Walks.{way-part-length}
 use Rattle.file_plan.proofs.all_parts.Statement.{statement}
 use Rattle.file_plan.proofs.all_parts.Tie as tie
 

@@ -4,7 +4,7 @@ use borrow.Author.Needs.{needs}
 use mathlib.Core.Path.{refl, _∙_, ap, ap₂}
 use mathlib.Core.List.{_++_}
 use lib.ListN.{length}
-use Rattle.file_plan.specs.Fills.{head-part-length, train-part-length, pair-part-length, four-parts}
+use Rattle.file_tables.specs.Fills.{head-part-length, train-part-length, pair-part-length, four-parts}
 use Rattle.file_plan.proofs.front_part.Statement.{statement}
 use Rattle.file_plan.proofs.front_part.Tie as tie
 

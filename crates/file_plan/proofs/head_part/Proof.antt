@@ -4,8 +4,8 @@ use borrow.Author.Needs.{needs}
 use mathlib.Core.Path.{_∙_, ap, ap₂}
 use mathlib.Core.List.{_++_}
 use lib.ListN.{length}
-use Rattle.file_plan.specs.Model.{headPart, priorityOf}
-use Rattle.file_plan.specs.Fills.{order-row-length, two-parts}
+use Rattle.file_tables.specs.Model.{headPart, priorityOf}
+use Rattle.file_tables.specs.Fills.{order-row-length, two-parts}
 use Rattle.file_plan.proofs.head_part.Statement.{statement}
 use Rattle.file_plan.proofs.head_part.Tie as tie
 

@@ -4,8 +4,8 @@ use borrow.Author.Needs.{needs}
 use mathlib.Core.Path.{refl, _∙_, ap, ap₂}
 use mathlib.Core.List.{_++_}
 use lib.ListN.{length}
-use Rattle.file_plan.specs.Model.{trainPart}
-use Rattle.file_plan.specs.Fills.{train-row-length, four-parts}
+use Rattle.file_tables.specs.Model.{trainPart}
+use Rattle.file_tables.specs.Fills.{train-row-length, four-parts}
 use Rattle.file_plan.proofs.train_part.Statement.{statement}
 use Rattle.file_plan.proofs.train_part.Tie as tie
 

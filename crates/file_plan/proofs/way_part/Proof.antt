@@ -4,9 +4,9 @@ use borrow.Author.Needs.{needs}
 use mathlib.Core.Path.{_∙_, ap, ap₂}
 use mathlib.Core.List.{_++_}
 use lib.ListN.{length}
-use Rattle.file_plan.specs.Model.{tracksFrom}
-use Rattle.file_plan.specs.Fills.{two-parts}
-use Rattle.file_plan.specs.Walks.{next-part-length, stay-part-length}
+use Rattle.file_tables.specs.Model.{tracksFrom}
+use Rattle.file_tables.specs.Fills.{two-parts}
+use Rattle.file_tables.specs.Walks.{next-part-length, stay-part-length}
 use Rattle.file_plan.proofs.way_part.Statement.{statement}
 use Rattle.file_plan.proofs.way_part.Tie as tie
 

@@ -1,0 +1,4 @@
+pub mod Lists
+pub mod Model
+pub mod Fills
+pub mod Walks
