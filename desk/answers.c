@@ -45,6 +45,25 @@ struct lampreysong_answer ask_book(const struct study *study)
     return judge(sound, sizeof sound, &study->book_bytes);
 }
 
+unsigned least_room(const struct study *study)
+{
+    enum { ROOM = 6, LAST = 3 }; /* where the head's room and last minute stand in a case */
+    static struct study with_room;
+    static struct lent lent;
+    unsigned least = 1, most = MOST_ROOM + 1;
+    with_room = *study;
+    while (least < most) {
+        unsigned room = (least + most) / 2, last = study->case_bytes.at[LAST] * 256u + study->case_bytes.at[LAST + 1];
+        with_room.case_bytes.at[ROOM] = (uint8_t)(room / 256);
+        with_room.case_bytes.at[ROOM + 1] = (uint8_t)(room % 256);
+        if (ask_run(&with_room, last, &lent).refusal == 0)
+            most = room;
+        else
+            least = room + 1;
+    }
+    return least;
+}
+
 static uint64_t number_at(const uint8_t *at)
 {
     uint64_t number = 0;

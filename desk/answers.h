@@ -24,6 +24,9 @@ struct lampreysong_answer ask_files(const struct study *study);
 /* Judges the book alone. */
 struct lampreysong_answer ask_book(const struct study *study);
 
+/* The least room with which the whole run of an accepted case is answered; one more than the most room if there is none. */
+unsigned least_room(const struct study *study);
+
 /* The weight that arrives in a minute, and by its end; train and minute as in the case. */
 uint64_t weight_in(const struct lent *lent, unsigned train, unsigned minute);
 uint64_t weight_by(const struct lent *lent, unsigned train, unsigned minute);

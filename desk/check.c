@@ -26,7 +26,7 @@ static uint32_t combinations(void)
     return product;
 }
 
-static void print_sound(unsigned rows)
+static void print_sound(void)
 {
     const struct level *level = &study.level;
     uint32_t choices = combinations();
@@ -38,8 +38,8 @@ static void print_sound(unsigned rows)
     print_count(level->tracks, "track", "tracks");
     fputs(", ", stdout);
     print_count(level->trains, "train", "trains");
-    printf("; window 0 to %u; %" PRIu32 " combination%s of delays; %u of %u rows in use after the last minute\n", level->head.last, choices,
-           choices == 1 ? "" : "s", rows, level->head.room);
+    printf("; window 0 to %u\n%" PRIu32 " combination%s of delays; the run needs %u of %u rows\n", level->head.last, choices, choices == 1 ? "" : "s",
+           least_room(&study), level->head.room);
 }
 
 static int is_of_case(const struct table *table)
@@ -74,7 +74,7 @@ int command_check(const struct request *request)
         say_refusal(stderr, &study, (struct refusal){a.refusal, a.file, a.place});
         return REFUSED;
     }
-    print_sound((unsigned)a.value);
+    print_sound();
     for (unsigned i = 0; i < study.level.trains; i++)
         print_train(&study.level.train[i]);
     return end_output(stdout, NULL);

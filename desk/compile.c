@@ -1,6 +1,5 @@
 /* `compile`: a text to the bytes that are run. */
 #include <stdio.h>
-#include <string.h>
 
 #include "answers.h"
 #include "input.h"
@@ -43,10 +42,7 @@ int command_compile(const struct request *request)
 {
     const struct bytes *bytes = request->as_book ? &study.book_bytes : &study.case_bytes;
     FILE *out;
-    int status;
-    if (request->output != NULL && strcmp(request->output, "-") != 0 && strcmp(request->output, request->case_name) == 0)
-        return misused("the bytes can't be written to %s, which is the text itself", request->output);
-    status = judge_text(request);
+    int status = judge_text(request);
     if (status != ANSWERED)
         return status;
     out = begin_output(request->output);

@@ -47,7 +47,7 @@ void reached_text(const struct study *study, const struct lent *lent, unsigned t
 {
     int used = 0, minute = 0;
     if (weight_by(lent, train, study->level.head.last) == 0) {
-        snprintf(text, REACHED_BYTES, "never arrives by minute %u", study->level.head.last);
+        snprintf(text, REACHED_BYTES, "not arrived by minute %u", study->level.head.last);
         return;
     }
     for (unsigned i = 0; i < MARKS && minute >= 0; i++) {
@@ -56,7 +56,7 @@ void reached_text(const struct study *study, const struct lent *lent, unsigned t
         if (minute >= 0)
             used += snprintf(text + used, (size_t)(REACHED_BYTES - used), " by %s%d", i > 0 ? "" : "minute ", minute);
         else
-            snprintf(text + used, (size_t)(REACHED_BYTES - used), " never reached");
+            snprintf(text + used, (size_t)(REACHED_BYTES - used), " not by minute %u", study->level.head.last);
     }
 }
 

@@ -304,7 +304,7 @@ static void draw_legend(FILE *out, const struct level *level)
 {
     struct box place = legend_place(0);
     svg_rect(out, (struct box){place.left, place.top + 30, SAMPLE, SAMPLE_HEIGHT}, STANDING_STYLE);
-    legend_words(out, place, "trains that stand there");
+    legend_words(out, place, "trains that are there");
     place = legend_place(1);
     svg_rect(out, (struct box){place.left, place.top + 30, SAMPLE, SAMPLE_HEIGHT}, BLOCKED_STYLE);
     legend_words(out, place, "still blocked after a train left");

@@ -117,7 +117,7 @@ static void print_row(const struct view *view, unsigned k, const struct counted 
 
 static void print_limit(const struct view *view)
 {
-    fprintf(view->out, "On time: at most %u %s after plan. Shares are of 100 choices, by weight.\n\n", view->limit,
+    fprintf(view->out, "On time: at most %u %s after plan. Shares are of 100 choices, by weight, rounded.\n\n", view->limit,
             view->limit == 1 ? "minute" : "minutes");
 }
 

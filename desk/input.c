@@ -11,6 +11,11 @@ static int is_standard(const char *name)
     return name == NULL || strcmp(name, "-") == 0;
 }
 
+/* What was read: a case, a book and a text with names at the most, and the case twice. */
+enum { MOST_READ = 4 };
+static struct text was_read[MOST_READ];
+static unsigned times_read;
+
 int read_input(const char *name, struct input *input)
 {
     FILE *file = is_standard(name) ? stdin : fopen(name, "rb");
@@ -28,6 +33,8 @@ int read_input(const char *name, struct input *input)
         fclose(file);
     if (failed)
         misused("%s can't be read to its end: %s", is_standard(name) ? "standard input" : name, strerror(error));
+    else if (times_read < MOST_READ)
+        was_read[times_read++] = input->text;
     return !failed;
 }
 
@@ -41,9 +48,30 @@ int is_text(const struct input *input)
     return input->text.length > 0;
 }
 
+/* Whether a file holds what was read, under whatever name. What has no end, as a pipe, holds nothing. */
+static int holds_input(const char *name)
+{
+    static struct text there;
+    FILE *file = fopen(name, "r+b");
+    int same = 0;
+    there.length = 0;
+    if (file != NULL && fseek(file, 0, SEEK_END) == 0 && fseek(file, 0, SEEK_SET) == 0)
+        there.length = fread(there.at, 1, MOST_TEXT, file);
+    if (file != NULL)
+        fclose(file);
+    for (unsigned i = 0; i < times_read && there.length > 0; i++)
+        same |= there.length == was_read[i].length && memcmp(there.at, was_read[i].at, there.length) == 0;
+    return same;
+}
+
 FILE *begin_output(const char *name)
 {
-    FILE *out = is_standard(name) ? stdout : fopen(name, "wb");
+    FILE *out;
+    if (!is_standard(name) && holds_input(name)) {
+        misused("%s holds what was read, and is not written over; give another file to --output", name);
+        return NULL;
+    }
+    out = is_standard(name) ? stdout : fopen(name, "wb");
     if (out == NULL)
         misused("%s can't be written: %s", name, strerror(errno));
     return out;

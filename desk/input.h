@@ -18,7 +18,8 @@ int read_input(const char *name, struct input *input);
  * tag, a control character, so it is never taken for text. */
 int is_text(const struct input *input);
 
-/* Opens a file to write to, standard output if the name is null or `-`; null, and said, if that can't be had. */
+/* Opens a file to write to, standard output if the name is null or `-`; null, and said, if that can't be had, or if the file holds what was read: what a
+ * planner wrote is never written over. */
 FILE *begin_output(const char *name);
 
 /* Ends it and gives the program's exit status: ANSWERED, or MISUSED, and said, if not all could be written. */

@@ -108,6 +108,8 @@ int command_listing(const struct request *request)
     struct view view = {stdout, &study.level, &lent, 0, 0, 0};
     if (status != ANSWERED)
         return status;
+    if (request->plain && request->bars)
+        return misused("--plain prints no bars: leave one of --plain and --bars out");
     a = ask_listing(&study, &lent);
     if (a.refusal != 0) {
         say_refusal(stderr, &study, (struct refusal){a.refusal, a.file, a.place});

@@ -52,9 +52,11 @@ int main(int count, char **words)
         return refusals();
     if (strcmp(words[1], "--help") == 0 || strcmp(words[1], "-h") == 0)
         return help(NULL);
+    if (strcmp(words[1], "help") == 0)
+        return help(words[2] != NULL ? find_command(words[2]) : NULL);
     command = find_command(words[1]);
     if (command == NULL)
-        return misused("there is no command %s; `lampreysong --help` lists the commands", words[1]);
+        return no_command(words[1]);
     if (!read_words(command, words + 2, &request, &help_asked))
         return MISUSED;
     return help_asked ? help(command) : command->run(&request);

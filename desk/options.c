@@ -6,6 +6,7 @@
 
 #include "numbers.h"
 #include "said.h"
+#include "text_names.h"
 
 static const struct command commands[] = {
     {"check", "say whether a case is sound, and what it holds",
@@ -41,8 +42,11 @@ static const struct command commands[] = {
 
 enum kind { FLAG, NUMBER, WORDS };
 
-struct word {
-    const char *option, *value; /* as written, and what its value is called */
+enum { OPTION_BYTES = 12 };
+
+struct known_option {
+    char option[OPTION_BYTES];
+    const char *value; /* what its value is called */
     const char *help;
     enum option bit;
     enum kind kind;
@@ -50,7 +54,7 @@ struct word {
 };
 
 #define MEMBER(name) offsetof(struct request, name)
-static const struct word options[] = {
+static const struct known_option options[] = {
     {"--book", "FILE", "the book: delay tables for types that have none in the case; text or bytes", TAKES_BOOK, WORDS, MEMBER(book_name)},
     {"--names", "TEXT", "the text that the case was compiled from, for the names of a case given as bytes", TAKES_NAMES, WORDS, MEMBER(names)},
     {"--output", "FILE", "write to this file, not to standard output; -o is short for it", TAKES_OUTPUT, WORDS, MEMBER(output)},
@@ -77,6 +81,28 @@ const struct command *find_command(const char *name)
     return NULL;
 }
 
+/* Of names that stand in structs of one size, the one that a mistyped word is near to, said as a question; nothing if none is. */
+struct question {
+    char text[40];
+};
+
+static struct question is_it(const struct names *names, const char *asked)
+{
+    const struct word word = {PLAIN, asked, strlen(asked), 0, 0};
+    const char *nearest = nearest_name(names, &word);
+    struct question question = {""};
+    if (nearest != NULL)
+        snprintf(question.text, sizeof question.text, "; is it %s?", nearest);
+    return question;
+}
+
+int no_command(const char *name)
+{
+    const struct names names = {commands[0].name, sizeof *commands, COUNT(commands)};
+    const struct question question = is_it(&names, name);
+    return misused("there is no command %s%s `lampreysong --help` lists the commands", name, question.text[0] != '\0' ? question.text : ";");
+}
+
 /* ---- help */
 
 void print_help(FILE *out)
@@ -95,9 +121,9 @@ void print_help(FILE *out)
 
 static void print_option(FILE *out, const char *option, const char *value, const char *help)
 {
-    char written[32];
-    snprintf(written, sizeof written, "%s%s%s", option, value != NULL ? " " : "", value != NULL ? value : "");
-    fprintf(out, "  %-16s %s\n", written, help);
+    enum { HELP_COLUMN = 19 };
+    int columns = fprintf(out, "  %s%s%s", option, value != NULL ? " " : "", value != NULL ? value : "");
+    fprintf(out, "%*s%s\n", columns > 0 && columns < HELP_COLUMN ? HELP_COLUMN - columns : 1, "", help);
 }
 
 void print_command_help(FILE *out, const struct command *command)
@@ -111,7 +137,7 @@ void print_command_help(FILE *out, const struct command *command)
 
 /* ---- words */
 
-static const struct word *find_option(const struct command *command, const char *option, size_t length)
+static const struct known_option *find_option(const struct command *command, const char *option, size_t length)
 {
     if (length == 2 && strncmp(option, "-o", 2) == 0)
         return find_option(command, "--output", 8);
@@ -121,12 +147,12 @@ static const struct word *find_option(const struct command *command, const char 
     return NULL;
 }
 
-static void *member_of(struct request *request, const struct word *word)
+static void *member_of(struct request *request, const struct known_option *word)
 {
     return (char *)request + word->member;
 }
 
-static int store(struct request *request, const struct word *word, const char *value)
+static int store(struct request *request, const struct known_option *word, const char *value)
 {
     unsigned long number;
     if (word->kind == WORDS) {
@@ -146,7 +172,7 @@ static char **read_option(const struct command *command, char **words, unsigned 
 {
     const char *equals = strchr(*words, '=');
     size_t length = equals != NULL ? (size_t)(equals - *words) : strlen(*words);
-    const struct word *word = find_option(command, *words, length);
+    const struct known_option *word = find_option(command, *words, length);
     if (word == NULL)
         misused("%s has no option %.*s; `lampreysong %s --help` lists its options", command->name, (int)length, *words, command->name);
     else if (*given & word->bit)

@@ -23,8 +23,10 @@ enum option {
     TAKES_SHIFT = 1 << 12
 };
 
+enum { COMMAND_BYTES = 8 };
+
 struct command {
-    const char *name;
+    char name[COMMAND_BYTES];
     const char *does; /* in one line */
     const char *more; /* for its help */
     unsigned takes;
@@ -33,6 +35,9 @@ struct command {
 
 /* The command of a name; null if there is none. */
 const struct command *find_command(const char *name);
+
+/* Says that there is no command of the name, and which one it is near to. */
+int no_command(const char *name);
 
 void print_help(FILE *out);
 void print_command_help(FILE *out, const struct command *command);

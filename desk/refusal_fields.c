@@ -23,7 +23,7 @@ void words_of_overrun(const struct fault *fault, struct words *words)
         say_wrong(words, "its length announces %u %s, but the file ends here.", fault->field.size, fault->field.size == 1 ? "byte" : "bytes");
     else
         say_wrong(words, "its length announces %u bytes, but the file has only %lu more.", fault->field.size, (unsigned long)(left - FIELD_HEADER));
-    say_mend(words, "the file was cut off, or a length in it is wrong. Make it again, or copy it again.");
+    say_mend(words, "the file was cut off, or a length in it is wrong. Compile its text again, or copy it again.");
 }
 
 /* ---- 2 */
@@ -126,7 +126,7 @@ static unsigned tag_before(const struct fault *fault)
 /* A field that is out of place can also be one that is none, where a byte before it was lost or added. */
 static void look_before(struct words *words)
 {
-    say_mend(words, "a byte may also be lost or added before this place: `lampreysong show --fields` prints the file field by field.");
+    say_mend(words, "or a byte was lost or added, here or before: `lampreysong show --fields` prints the file field by field.");
 }
 
 void words_of_order(const struct fault *fault, struct words *words)

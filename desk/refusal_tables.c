@@ -1,6 +1,7 @@
 /* Refusals 10 to 12 in words: delay tables, types without a table, and the room. */
 #include <string.h>
 
+#include "answers.h"
 #include "refusal_words.h"
 
 enum { PAIR_BYTES = 2, WHOLE_TABLE = 100, TYPE_BYTES = NAME_BYTES + 16, TYPES_BYTES = MOST_TABLES * TYPE_BYTES };
@@ -50,9 +51,9 @@ static int has_wrong_sum(const struct fault *fault, const uint8_t *body, struct 
         sum += pair_at(body, i).weight;
     if (sum == WHOLE_TABLE)
         return 0;
-    say_wrong(words, "the weights of %s sum to %u, not to 100: %u too %s.", element_called(fault).text, sum,
+    say_wrong(words, "the %s of %s sum to %u, not to 100: %u too %s.", was_text(fault) ? "percents" : "weights", element_called(fault).text, sum,
               sum > WHOLE_TABLE ? sum - WHOLE_TABLE : WHOLE_TABLE - sum, sum > WHOLE_TABLE ? "many" : "few");
-    say_mend(words, "change the weights so that they sum to 100.");
+    say_mend(words, "change them so that they sum to 100.");
     return 1;
 }
 
@@ -121,13 +122,13 @@ void words_of_type(const struct fault *fault, struct words *words)
 void words_of_room(const struct fault *fault, struct words *words)
 {
     const uint8_t *head = nth_body(&fault->study->case_bytes, TAG_HEAD, 0);
-    unsigned room = head != NULL ? number_at(head + 3) : 0;
+    unsigned room = head != NULL ? number_at(head + 3) : 0, least = least_room(fault->study);
     if (head == NULL)
         return;
     say_wrong(words, "the run needs more than %u %s, which is the room of this case.", room, room == 1 ? "row" : "rows");
-    if (room < MOST_ROOM)
-        say_mend(words, "ask for more room, up to %d rows.", (int)MOST_ROOM);
+    if (least <= MOST_ROOM)
+        say_mend(words, "ask for room %u; it can be up to %d.", least, (int)MOST_ROOM);
     else
-        say_mend(words, "there can't be more room.");
+        say_mend(words, "the most that a case can ask for, %d rows, does not suffice.", (int)MOST_ROOM);
     say_mend(words, "fewer delays in the tables or fewer trains make the list shorter.");
 }

@@ -44,7 +44,7 @@ void words_of_range(const struct fault *fault, struct words *words)
         words_of_head(fault, body, words);
     else if ((tag == TAG_STATION && body[0] == 0) || (tag == TAG_TRACK && body[2] == 0)) {
         say_wrong(words, "%s holds 0 trains; a capacity is 1 to 255.", element_called(fault).text);
-        say_mend(words, "let it hold at least one train, or take it out.");
+        say_mend(words, "let it hold at least one train.");
     }
 }
 

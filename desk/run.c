@@ -69,11 +69,16 @@ static void print_cover(const struct view *view, const struct entry *entry)
 
 /* ---- tables */
 
-static const char *does(const struct entry *entry)
+/* What the entry does after the minute `stop`: a train that is due and still here waits. */
+static const char *does(const struct entry *entry, unsigned stop)
 {
     if (entry->blocking)
         return "blocks";
-    return entry->kind == OUTSIDE ? "waits" : entry->kind == GONE ? "is" : "stands";
+    if (entry->kind == GONE)
+        return "is";
+    if (entry->minute <= stop)
+        return "waits";
+    return entry->kind == OUTSIDE ? "comes" : "stands";
 }
 
 static void print_entry(const struct view *view, const struct entry *entry)
@@ -81,7 +86,7 @@ static void print_entry(const struct view *view, const struct entry *entry)
     const struct level *level = &view->study->level;
     uint64_t weight = entry_weight(view->study, entry);
     print_left(view->out, level->train[entry->train].name, train_columns(level));
-    fprintf(view->out, "  %-6s  ", does(entry));
+    fprintf(view->out, "  %-6s  ", does(entry, view->stop));
     print_left(view->out, place_text(level, entry).text, view->place_columns);
     fprintf(view->out, "  %-*s  %*" PRIu64 "  %7s  ", (int)MINUTE_COLUMNS, minute_text(entry).text, view->weight_columns, weight,
             share_text(weight, view->whole).text);

@@ -120,7 +120,5 @@ static int show_fields(const struct request *request)
 
 int command_show(const struct request *request)
 {
-    if (request->output != NULL && strcmp(request->output, "-") != 0 && strcmp(request->output, request->case_name) == 0)
-        return misused("what is shown can't be written to %s, which is the file itself", request->output);
     return request->fields ? show_fields(request) : show_as_text(request);
 }

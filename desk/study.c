@@ -162,7 +162,7 @@ static int read_names(const char *names, struct study *study)
     if (status != ANSWERED)
         return status;
     if (!named.case_is_text || !same_bytes(&named.case_bytes, &study->case_bytes))
-        return misused("%s is not the text of %s, so its names are not used", names, study->case_name);
+        return misused("%s is not the text of %s, so nothing was run; give the text that it was compiled from, or leave --names out", names, study->case_name);
     take_names(&study->level, &named.level);
     return ANSWERED;
 }

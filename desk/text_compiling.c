@@ -154,8 +154,12 @@ int read_part(struct compiling *c, struct parts *parts, const struct word *word)
 int no_part(struct compiling *c, const struct parts *parts, const struct word *word)
 {
     for (unsigned i = 0; i < parts->count; i++)
-        if (!parts->part[i].said && parts->part[i].written != NULL)
-            return expected(c->reader.error, word, "%s is expected", parts->part[i].written);
+        if (!parts->part[i].said && parts->part[i].written != NULL) {
+            expected(c->reader.error, word, "%s is expected", parts->part[i].written);
+            if (is_name(word))
+                add_words(c->reader.error, "; a name with spaces stands in double quotes");
+            return 0;
+        }
     return ends(word) || expected(c->reader.error, word, "the end of the line is expected");
 }
 

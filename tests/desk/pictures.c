@@ -434,7 +434,7 @@ static void windows(void)
     study.level.tables.table[0].pair[0] = (struct pair){200, 100};
     expect(changed() == 0, "a train that comes too late is accepted");
     draw_both("arrivals where nothing arrives", "a shift in which nothing happens");
-    expect(shows(">not arrived 100.00</text>") && shows(">never arrives by minute 3</text>") && !shows("<title>minute "), "nothing arrives");
+    expect(shows(">not arrived 100.00</text>") && shows(">not arrived by minute 3</text>") && !shows("<title>minute "), "nothing arrives");
     make_line(1, 2, 3);
     study.level.tables.table[0].pairs = 1;
     study.level.tables.table[0].pair[0] = (struct pair){0, 100};

@@ -25,27 +25,27 @@ static const struct damage damages[] = {
      "  where  shift.case: delay table 0, counted from 0\n"
      "  bytes  field 7, at byte 52: 05 00 05 01 00 3c 03\n"
      "  wrong  Its length announces 5 bytes, but the file has only 4 more.\n"
-     "  mend   The file was cut off, or a length in it is wrong. Make it again, or copy it again.\n"},
+     "  mend   The file was cut off, or a length in it is wrong. Compile its text again, or copy it again.\n"},
     {"1, a header of two bytes", 54, 6, "", NULL, 1,
      "  where  shift.case\n"
      "  bytes  field 7, at byte 52: 05 00\n"
      "  wrong  A field begins with 3 bytes, its tag and its length, but only 2 are left.\n"
-     "  mend   The file was cut off, or a length in it is wrong. Make it again, or copy it again.\n"},
+     "  mend   The file was cut off, or a length in it is wrong. Compile its text again, or copy it again.\n"},
     {"1, a header of one byte", 53, 7, "", NULL, 1,
      "  where  shift.case\n"
      "  bytes  field 7, at byte 52: 05\n"
      "  wrong  A field begins with 3 bytes, its tag and its length, but only 1 is left.\n"
-     "  mend   The file was cut off, or a length in it is wrong. Make it again, or copy it again.\n"},
+     "  mend   The file was cut off, or a length in it is wrong. Compile its text again, or copy it again.\n"},
     {"1, a body that is not there", 55, 5, "", NULL, 1,
      "  where  shift.case: delay table 0, counted from 0\n"
      "  bytes  field 7, at byte 52: 05 00 05\n"
      "  wrong  Its length announces 5 bytes, but the file ends here.\n"
-     "  mend   The file was cut off, or a length in it is wrong. Make it again, or copy it again.\n"},
+     "  mend   The file was cut off, or a length in it is wrong. Compile its text again, or copy it again.\n"},
     {"1, in a book", 0, 0, "", "05 0005 07 00", 1,
      "  where  types.book: delay table 0, counted from 0\n"
      "  bytes  field 1, at byte 0: 05 00 05 07 00\n"
      "  wrong  Its length announces 5 bytes, but the file has only 2 more.\n"
-     "  mend   The file was cut off, or a length in it is wrong. Make it again, or copy it again.\n"},
+     "  mend   The file was cut off, or a length in it is wrong. Compile its text again, or copy it again.\n"},
     {"2, a first tag of 0", 0, 1, "00", NULL, 2,
      "  where  shift.case\n"
      "  bytes  field 1, at byte 0: 00 00 05 00 14 01 04 00\n"
@@ -114,19 +114,19 @@ static const struct damage damages[] = {
      "  bytes  field 2, at byte 8: 01 00 05 00 14 01 04 00\n"
      "  wrong  This is a second head, but a case has one.\n"
      "  mend   Take one of the two out.\n"
-     "         A byte may also be lost or added before this place: `lampreysong show --fields` prints the file field by field.\n"},
+     "         Or a byte was lost or added, here or before: `lampreysong show --fields` prints the file field by field.\n"},
     {"3, a station after a track", 22, 0, "02 0001 01", NULL, 3,
      "  where  shift.case: station 2, counted from 0\n"
      "  bytes  field 5, at byte 22: 02 00 01 01\n"
      "  wrong  A station (tag 2) stands after a track (tag 3).\n"
      "  mend   The order is head, stations, tracks, trains, delay tables: put it before the first track.\n"
-     "         A byte may also be lost or added before this place: `lampreysong show --fields` prints the file field by field.\n"},
+     "         Or a byte was lost or added, here or before: `lampreysong show --fields` prints the file field by field.\n"},
     {"3, a train after a table", 60, 0, "04 ffff", NULL, 3,
      "  where  shift.case: train 2, counted from 0\n"
      "  bytes  field 8, at byte 60: 04 ff ff\n"
      "  wrong  A train (tag 4) stands after a delay table (tag 5).\n"
      "  mend   The order is head, stations, tracks, trains, delay tables: put it before the first delay table.\n"
-     "         A byte may also be lost or added before this place: `lampreysong show --fields` prints the file field by field.\n"},
+     "         Or a byte was lost or added, here or before: `lampreysong show --fields` prints the file field by field.\n"},
     {"3, a case in place of a book", 0, 0, "", "01 0005 0014 01 0400", 3,
      "  where  types.book: head\n"
      "  bytes  field 1, at byte 0: 01 00 05 00 14 01 04 00\n"
@@ -235,12 +235,12 @@ static const struct damage damages[] = {
      "  where  shift.case: station 1, counted from 0\n"
      "  bytes  field 3, at byte 12: 02 00 01 00\n"
      "  wrong  Station 1 holds 0 trains; a capacity is 1 to 255.\n"
-     "  mend   Let it hold at least one train, or take it out.\n"},
+     "  mend   Let it hold at least one train.\n"},
     {"6, a track for no train", 21, 1, "00", NULL, 6,
      "  where  shift.case: track 0, counted from 0\n"
      "  bytes  field 4, at byte 16: 03 00 03 00 01 00\n"
      "  wrong  Track 0 holds 0 trains; a capacity is 1 to 255.\n"
-     "  mend   Let it hold at least one train, or take it out.\n"},
+     "  mend   Let it hold at least one train.\n"},
     {"7, an unknown beginning", 19, 1, "02", NULL, 7,
      "  where  shift.case: track 0, counted from 0\n"
      "  bytes  field 4, at byte 16: 03 00 03 02 01 01\n"
@@ -326,12 +326,12 @@ static const struct damage damages[] = {
      "  where  shift.case: delay table 0, counted from 0\n"
      "  bytes  field 7, at byte 52: 05 00 05 01 00 3c 03 29\n"
      "  wrong  The weights of delay table 0 sum to 101, not to 100: 1 too many.\n"
-     "  mend   Change the weights so that they sum to 100.\n"},
+     "  mend   Change them so that they sum to 100.\n"},
     {"10, a sum of 99", 59, 1, "27", NULL, 10,
      "  where  shift.case: delay table 0, counted from 0\n"
      "  bytes  field 7, at byte 52: 05 00 05 01 00 3c 03 27\n"
      "  wrong  The weights of delay table 0 sum to 99, not to 100: 1 too few.\n"
-     "  mend   Change the weights so that they sum to 100.\n"},
+     "  mend   Change them so that they sum to 100.\n"},
     {"10, types that don't rise", 60, 0, "05 0003 01 00 64", NULL, 10,
      "  where  shift.case: delay table 1, counted from 0\n"
      "  bytes  field 8, at byte 60: 05 00 03 01 00 64\n"
@@ -392,7 +392,7 @@ static const struct words_said texts_said[] = {
      "  where  early.txt, line 12: station \"Lower Tip\" (station 1, counted from 0)\n"
      "  bytes  field 3 of the compiled case, at byte 12: 02 00 01 00\n"
      "  wrong  Station \"Lower Tip\" holds 0 trains; a capacity is 1 to 255.\n"
-     "  mend   Let it hold at least one train, or take it out.\n"},
+     "  mend   Let it hold at least one train.\n"},
     {"4, one stop", 4,
      "  where  early.txt, line 17: train Ore-2 (train 1, counted from 0)\n"
      "  bytes  field 6 of the compiled case, at byte 37: 04 00 07 01 01 00 00 05 00 08\n"
@@ -441,8 +441,8 @@ static const struct words_said texts_said[] = {
     {"10, a sum", 10,
      "  where  early.txt, line 20: delay table Ore (delay table 0, counted from 0)\n"
      "  bytes  field 7 of the compiled case, at byte 52: 05 00 05 01 00 3c 03 29\n"
-     "  wrong  The weights of delay table Ore sum to 101, not to 100: 1 too many.\n"
-     "  mend   Change the weights so that they sum to 100.\n"},
+     "  wrong  The percents of delay table Ore sum to 101, not to 100: 1 too many.\n"
+     "  mend   Change them so that they sum to 100.\n"},
     {"11, a type", 11,
      "  where  early.txt, line 17: train Ore-2 (train 1, counted from 0)\n"
      "  bytes  field 6 of the compiled case, at byte 37: 04 00 0c 01 09 00 00 05 00 08 01 00 0b 00 0c\n"
@@ -499,13 +499,13 @@ static const char *const station_in_book_said =
 static const char *const little_room_said =
     "  where  early.txt\n"
     "  wrong  The run needs more than 8 rows, which is the room of this case.\n"
-    "  mend   Ask for more room, up to 1024 rows.\n"
+    "  mend   Ask for room 9; it can be up to 1024.\n"
     "         Fewer delays in the tables or fewer trains make the list shorter.\n";
 
 static const char *const all_room_said =
     "  where  early.txt\n"
     "  wrong  The run needs more than 1024 rows, which is the room of this case.\n"
-    "  mend   There can't be more room.\n"
+    "  mend   The most that a case can ask for, 1024 rows, does not suffice.\n"
     "         Fewer delays in the tables or fewer trains make the list shorter.\n";
 
 static const char *const late_stop_said =

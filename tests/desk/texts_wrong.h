@@ -34,7 +34,7 @@ static const struct wrong_text {
     {"  holds 1\n", 1, 3, "`title`, `window`, `safety`, `room`, `station`, `track`, `delays` or `train` is expected, and `holds` stands here", A_CASE},
     {"Face 2-3\n", 1, 1, "`Face` looks like a stop, but no train stands before it; stops come right after the line of their train", A_CASE},
     {"station Face holds two\n", 1, 20, "a whole number of 0 to 255 is expected after `holds`, and `two` stands here", A_CASE},
-    {"station Face hold 2\n", 1, 14, "`holds` with a number is expected, and `hold` stands here", A_CASE},
+    {"station Face hold 2\n", 1, 14, "`holds` with a number is expected, and `hold` stands here; a name with spaces stands in double quotes", A_CASE},
     {"station Face\n", 1, 13, "`holds` with a number is expected, and the line ends here", A_CASE},
     {"station Face holds", 1, 19, "a whole number of 0 to 255 is expected after `holds`, and the text ends here", A_CASE},
     {"station Face holds 1 2\n", 1, 22, "the end of the line is expected, and `2` stands here", A_CASE},
@@ -82,7 +82,7 @@ static const struct wrong_text {
     {"window 9\nsafety 0\nstation Face holds 1\nstation Tip holds 1\ntrack\n",
      5, 6, "a name or `from` is expected after `track`, and the line ends here", A_CASE},
     {"window 9\nsafety 0\nstation Face holds 1\nstation Tip holds 1\ntrack Incline Face Tip holds 1\n",
-     5, 15, "`from` with a station is expected, and `Face` stands here", A_CASE},
+     5, 15, "`from` with a station is expected, and `Face` stands here; a name with spaces stands in double quotes", A_CASE},
     {"window 9\nsafety 0\nstation Face holds 1\nstation Tip holds 1\ntrack A from Face to Tip holds 1\n"
      "track A from Tip to Face holds 1\n",
      6, 7, "a track called `A` stands in line 5 already; give this one another name", A_CASE},
