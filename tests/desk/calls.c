@@ -29,6 +29,7 @@ static void layouts(void)
     expect(offsetof(figures, punctuality) == 8 && offsetof(figures, zero) == 12 && offsetof(figures, share) == 16, "the figures' share");
     expect(offsetof(figures, on_time) == 24 && offsetof(figures, late) == 32 && offsetof(figures, not_arrived) == 40, "the three shares");
     expect(offsetof(figures, lateness) == 48 && offsetof(figures, arrived) == 56 && offsetof(figures, kept) == 64, "the lateness");
+    expect(sizeof(viewed) == 16, "what is viewed has 16 bytes");
     expect(offsetof(viewed, refusal) == 0 && offsetof(viewed, given) == 2 && offsetof(viewed, tag) == 4, "what is viewed: its tag");
     expect(offsetof(viewed, size) == 6 && offsetof(viewed, next) == 8, "what is viewed: its length and the place then");
     expect(sizeof rows == 16384 && sizeof weights == 40320 && sizeof text == 32768, "the required lengths");
