@@ -74,10 +74,7 @@ static void words_of_first_tag(const struct fault *fault, struct words *words)
     const struct bytes *bytes = fault->bytes;
     size_t odd = first_unprinted(bytes);
     int is_hex = looks_like_hex(bytes);
-    if (looks_like_utf16(bytes)) {
-        say_wrong(words, "the file begins like text that was saved as UTF-16.");
-        say_mend(words, "save the text as UTF-8.");
-    } else if (is_hex || (odd >= LOOKED_AT && odd < bytes->length)) {
+    if (is_hex || (odd >= LOOKED_AT && odd < bytes->length)) {
         say_wrong(words, is_hex ? "this looks like hex written as text." : "this looks like text.");
         if (odd < bytes->length)
             say_wrong(words, "byte %lu is the control character %02x, so the file was not read as text.", (unsigned long)odd, bytes->at[odd]);
@@ -93,6 +90,11 @@ void words_of_tag(const struct fault *fault, struct words *words)
 {
     if (!fault->has_header || kind_of(fault->field.tag) != NULL)
         return;
+    if (fault->field.place == 0 && looks_like_utf16(fault->bytes)) {
+        say_wrong(words, "the file is text that was saved as UTF-16, it seems.");
+        say_mend(words, "save the text as UTF-8.");
+        return;
+    }
     say_wrong(words, "the tag is %u; tags are 1 head, 2 station, 3 track, 4 train and 5 delay table.", fault->field.tag);
     if (fault->field.place == 0)
         words_of_first_tag(fault, words);
@@ -123,10 +125,10 @@ static unsigned tag_before(const struct fault *fault)
     return tag;
 }
 
-/* A field that is out of place can also be one that is none, where a byte before it was lost or added. */
+/* A field that is out of place and has an impossible length is none: a byte before it was lost or added. */
 static void look_before(struct words *words)
 {
-    say_mend(words, "or a byte was lost or added, here or before: `lampreysong show --fields` prints the file field by field.");
+    say_mend(words, "perhaps a byte was lost or added, here or before: `lampreysong show --fields` prints the file field by field.");
 }
 
 void words_of_order(const struct fault *fault, struct words *words)
@@ -136,17 +138,19 @@ void words_of_order(const struct fault *fault, struct words *words)
         return;
     if (fault->in_book)
         words_of_book_order(fault, words);
-    else if (fault->field.place == 0 && tag != TAG_HEAD) {
+    else if (fault->field.place > 0 && !possible_length(tag, fault->field.size)) {
+        say_wrong(words, "what stands here can be no field: it begins as a %s (tag %u), but then says that its length is %u.", kind_of(tag), tag,
+                  fault->field.size);
+        look_before(words);
+    } else if (fault->field.place == 0 && tag != TAG_HEAD) {
         say_wrong(words, "the first field is a %s (tag %u), but a case begins with its head (tag 1).", kind_of(tag), tag);
         say_mend(words, tag == TAG_TABLE ? "this may be a book. A book is given by --book, beside a case." : "put the head first.");
     } else if (fault->field.place > 0 && tag == TAG_HEAD) {
         say_wrong(words, "this is a second head, but a case has one.");
         say_mend(words, "take one of the two out.");
-        look_before(words);
     } else if (tag < before) {
         say_wrong(words, "a %s (tag %u) stands after a %s (tag %u).", kind_of(tag), tag, kind_of(before), before);
         say_mend(words, "the order is head, stations, tracks, trains, delay tables: put it before the first %s.", kind_of(before));
-        look_before(words);
     }
 }
 

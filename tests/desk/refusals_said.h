@@ -59,20 +59,17 @@ static const struct damage damages[] = {
     {"2, UTF-16 with a mark", 0, 60, "fffe 7400 6900", NULL, 2,
      "  where  shift.case\n"
      "  bytes  field 1, at byte 0: ff fe 74 00 69 00\n"
-     "  wrong  The tag is 255; tags are 1 head, 2 station, 3 track, 4 train and 5 delay table.\n"
-     "         The file begins like text that was saved as UTF-16.\n"
+     "  wrong  The file is text that was saved as UTF-16, it seems.\n"
      "  mend   Save the text as UTF-8.\n"},
     {"2, UTF-16 without a mark", 0, 60, "7400 6900 7400 6c00 6500 2000 4c00 6500 7600", NULL, 2,
      "  where  shift.case\n"
      "  bytes  field 1, at byte 0: 74 00 69 00 74 00 6c 00 65 00 20 00 4c 00 65 00 ..\n"
-     "  wrong  The tag is 116; tags are 1 head, 2 station, 3 track, 4 train and 5 delay table.\n"
-     "         The file begins like text that was saved as UTF-16.\n"
+     "  wrong  The file is text that was saved as UTF-16, it seems.\n"
      "  mend   Save the text as UTF-8.\n"},
     {"2, UTF-16, high byte first", 0, 60, "0074 0069 0074 006c 0065 0020 004c 0065 0076", NULL, 2,
      "  where  shift.case\n"
      "  bytes  field 1, at byte 0: 00 74 00 69 00 74 00 6c 00 65 00 20 00 4c 00 65 ..\n"
-     "  wrong  The tag is 0; tags are 1 head, 2 station, 3 track, 4 train and 5 delay table.\n"
-     "         The file begins like text that was saved as UTF-16.\n"
+     "  wrong  The file is text that was saved as UTF-16, it seems.\n"
      "  mend   Save the text as UTF-8.\n"},
     {"2, hex with a control character", 0, 60, "30312030303035203030313420303120303430300c", NULL, 2,
      "  where  shift.case\n"
@@ -113,20 +110,22 @@ static const struct damage damages[] = {
      "  where  shift.case: head\n"
      "  bytes  field 2, at byte 8: 01 00 05 00 14 01 04 00\n"
      "  wrong  This is a second head, but a case has one.\n"
-     "  mend   Take one of the two out.\n"
-     "         Or a byte was lost or added, here or before: `lampreysong show --fields` prints the file field by field.\n"},
+     "  mend   Take one of the two out.\n"},
     {"3, a station after a track", 22, 0, "02 0001 01", NULL, 3,
      "  where  shift.case: station 2, counted from 0\n"
      "  bytes  field 5, at byte 22: 02 00 01 01\n"
      "  wrong  A station (tag 2) stands after a track (tag 3).\n"
-     "  mend   The order is head, stations, tracks, trains, delay tables: put it before the first track.\n"
-     "         Or a byte was lost or added, here or before: `lampreysong show --fields` prints the file field by field.\n"},
-    {"3, a train after a table", 60, 0, "04 ffff", NULL, 3,
+     "  mend   The order is head, stations, tracks, trains, delay tables: put it before the first track.\n"},
+    {"3, what can be no field", 60, 0, "04 ffff", NULL, 3,
      "  where  shift.case: train 2, counted from 0\n"
      "  bytes  field 8, at byte 60: 04 ff ff\n"
+     "  wrong  What stands here can be no field: it begins as a train (tag 4), but then says that its length is 65535.\n"
+     "  mend   Perhaps a byte was lost or added, here or before: `lampreysong show --fields` prints the file field by field.\n"},
+    {"3, a train after a table", 60, 0, "04 000c", NULL, 3,
+     "  where  shift.case: train 2, counted from 0\n"
+     "  bytes  field 8, at byte 60: 04 00 0c\n"
      "  wrong  A train (tag 4) stands after a delay table (tag 5).\n"
-     "  mend   The order is head, stations, tracks, trains, delay tables: put it before the first delay table.\n"
-     "         Or a byte was lost or added, here or before: `lampreysong show --fields` prints the file field by field.\n"},
+     "  mend   The order is head, stations, tracks, trains, delay tables: put it before the first delay table.\n"},
     {"3, a case in place of a book", 0, 0, "", "01 0005 0014 01 0400", 3,
      "  where  types.book: head\n"
      "  bytes  field 1, at byte 0: 01 00 05 00 14 01 04 00\n"
