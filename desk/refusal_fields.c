@@ -125,7 +125,7 @@ static unsigned tag_before(const struct fault *fault)
     return tag;
 }
 
-/* A field that is out of place and has an impossible length is none: a byte before it was lost or added. */
+/* A length that its tag can't have comes most likely of a byte that was lost or added. */
 static void look_before(struct words *words)
 {
     say_mend(words, "perhaps a byte was lost or added, here or before: `lampreysong show --fields` prints the file field by field.");
@@ -182,7 +182,7 @@ void words_of_length(const struct fault *fault, struct words *words)
         return;
     }
     say_wrong(words, "its length is %u %s; the length of a %s is %s.", size, size == 1 ? "byte" : "bytes", kind_of(tag), lengths[tag]);
-    say_mend(words, "correct the length, or the bytes after it. `lampreysong show --fields` prints the file field by field.");
+    look_before(words);
 }
 
 /* ---- 5 */

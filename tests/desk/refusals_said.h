@@ -140,37 +140,37 @@ static const struct damage damages[] = {
      "  where  shift.case: head\n"
      "  bytes  field 1, at byte 0: 01 00 04 00 14 01 04\n"
      "  wrong  Its length is 4 bytes; the length of a head is 5 bytes.\n"
-     "  mend   Correct the length, or the bytes after it. `lampreysong show --fields` prints the file field by field.\n"},
+     "  mend   Perhaps a byte was lost or added, here or before: `lampreysong show --fields` prints the file field by field.\n"},
     {"4, a station", 9, 2, "ffff", NULL, 4,
      "  where  shift.case: station 0, counted from 0\n"
      "  bytes  field 2, at byte 8: 02 ff ff 01 02 00 01 01 03 00 03 00 01 01 04 00 ..\n"
      "  wrong  Its length is 65535 bytes; the length of a station is 1 byte.\n"
-     "  mend   Correct the length, or the bytes after it. `lampreysong show --fields` prints the file field by field.\n"},
+     "  mend   Perhaps a byte was lost or added, here or before: `lampreysong show --fields` prints the file field by field.\n"},
     {"4, a track", 18, 1, "01", NULL, 4,
      "  where  shift.case: track 0, counted from 0\n"
      "  bytes  field 4, at byte 16: 03 00 01 00\n"
      "  wrong  Its length is 1 byte; the length of a track is 3 bytes.\n"
-     "  mend   Correct the length, or the bytes after it. `lampreysong show --fields` prints the file field by field.\n"},
+     "  mend   Perhaps a byte was lost or added, here or before: `lampreysong show --fields` prints the file field by field.\n"},
     {"4, a train", 24, 1, "0d", NULL, 4,
      "  where  shift.case: train 0, counted from 0\n"
      "  bytes  field 5, at byte 22: 04 00 0d 01 01 00 00 02 00 03 01 00 06 00 07 04\n"
      "  wrong  Its length is 13 bytes; the length of a train is 12, 17, 22, 27, 32, 37 or 42 bytes (2 to 8 stops).\n"
-     "  mend   Correct the length, or the bytes after it. `lampreysong show --fields` prints the file field by field.\n"},
+     "  mend   Perhaps a byte was lost or added, here or before: `lampreysong show --fields` prints the file field by field.\n"},
     {"4, a table", 54, 1, "04", NULL, 4,
      "  where  shift.case: delay table 0, counted from 0\n"
      "  bytes  field 7, at byte 52: 05 00 04 01 00 3c 03\n"
      "  wrong  Its length is 4 bytes; the length of a delay table is 3, 5, 7, 9, 11, 13, 15 or 17 bytes (1 to 8 delays).\n"
-     "  mend   Correct the length, or the bytes after it. `lampreysong show --fields` prints the file field by field.\n"},
+     "  mend   Perhaps a byte was lost or added, here or before: `lampreysong show --fields` prints the file field by field.\n"},
     {"4, a length that is one too long", 18, 1, "04", NULL, 4,
      "  where  shift.case: track 0, counted from 0\n"
      "  bytes  field 4, at byte 16: 03 00 04 00 01 01 04\n"
      "  wrong  Its length is 4 bytes; the length of a track is 3 bytes.\n"
-     "  mend   Correct the length, or the bytes after it. `lampreysong show --fields` prints the file field by field.\n"},
+     "  mend   Perhaps a byte was lost or added, here or before: `lampreysong show --fields` prints the file field by field.\n"},
     {"4, a table of no pair in a book", 0, 0, "", "05 0001 07", 4,
      "  where  types.book: delay table 0, counted from 0\n"
      "  bytes  field 1, at byte 0: 05 00 01 07\n"
      "  wrong  Its length is 1 byte; the length of a delay table is 3, 5, 7, 9, 11, 13, 15 or 17 bytes (1 to 8 delays).\n"
-     "  mend   Correct the length, or the bytes after it. `lampreysong show --fields` prints the file field by field.\n"},
+     "  mend   Perhaps a byte was lost or added, here or before: `lampreysong show --fields` prints the file field by field.\n"},
     {"5, stations", 8, 0, "[02 0001 01]*23", NULL, 5,
      "  where  shift.case: station 24, counted from 0\n"
      "  bytes  field 26, at byte 104: 02 00 01 01\n"
