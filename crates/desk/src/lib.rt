@@ -5,7 +5,6 @@ use file_fields::refusals;
 use file_lookup::Files;
 use laying::Answer;
 use telling::TrainFigures;
-ghost use mathlib.Core.Path.{_≡_};
 ghost use Rattle.desk.specs.Answers.{SingleGives, RunGives, ListingGives, FiguresGives, FieldGives};
 
 // What the field viewer gives at a place: `refusal` is 1 if a field runs past the end, `given` is 1 if there is a whole one.
