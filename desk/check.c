@@ -42,6 +42,27 @@ static void print_sound(void)
            least_room(&study), level->head.room);
 }
 
+/* Whether the plan stands in its own way: who is held up by others even where each train has its least delay. */
+static void print_conflicts(void)
+{
+    static const uint8_t least[MOST_TRAINS];
+    unsigned held = 0;
+    for (unsigned k = 0; k < study.level.trains; k++) {
+        const struct train *train = &study.level.train[k];
+        const unsigned due = planned_arrival(train) + table_of(&study.level, &study.book, train->type)->pair[0].delay;
+        const struct lampreysong_answer a = lampreysong_single(study.case_bytes.at, study.case_bytes.length, study.book_bytes.at, study.book_bytes.length,
+                                                               least, study.level.trains, k);
+        if (a.value == due || (a.value == LAMPREYSONG_NONE && due > study.level.head.last))
+            continue;
+        fputs(held++ == 0 ? "held up by another train even with the least delays: " : ", ", stdout);
+        if (a.value == LAMPREYSONG_NONE)
+            printf("%s (not arrived)", train->name);
+        else
+            printf("%s (+%u)", train->name, (unsigned)a.value - due);
+    }
+    puts(held == 0 ? "with the least delays no train is held up by another" : "");
+}
+
 static int is_of_case(const struct table *table)
 {
     for (unsigned i = 0; i < study.level.tables.count; i++)
@@ -75,6 +96,7 @@ int command_check(const struct request *request)
         return REFUSED;
     }
     print_sound();
+    print_conflicts();
     for (unsigned i = 0; i < study.level.trains; i++)
         print_train(&study.level.train[i]);
     return end_output(stdout, NULL);

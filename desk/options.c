@@ -10,7 +10,8 @@
 
 static const struct command commands[] = {
     {"check", "say whether a case is sound, and what it holds",
-     "It judges the files as every run does, and then runs the whole window to see whether the room suffices.",
+     "It judges the files as every run does, says how much of its room the run needs, and which trains are held up\n"
+     "by others even where each has its least delay: then the plan stands in its own way.",
      TAKES_BOOK | TAKES_NAMES, command_check},
     {"listing", "print the minutes in which each train can arrive, with their weights",
      "All choices of delays together weigh 100 to the power of the number of trains. The weight of a minute\n"
@@ -109,7 +110,7 @@ void print_help(FILE *out)
 {
     fputs("Use: lampreysong COMMAND FILE [OPTION..]\n\n"
           "Carries all combinations of delays through a shift of a mine railway together, and says when each train can\n"
-          "arrive. FILE is a case: text (`man lampreysong` shows how to write one) or bytes; - is standard input.\n\nCommands:\n",
+          "arrive. FILE is a case: text (the manual, lampreysong.1, shows how to write one) or bytes; - is standard input.\n\nCommands:\n",
           out);
     for (size_t i = 0; i < COUNT(commands); i++)
         fprintf(out, "  %-8s %s\n", commands[i].name, commands[i].does);

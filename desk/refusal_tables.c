@@ -127,7 +127,7 @@ void words_of_room(const struct fault *fault, struct words *words)
         return;
     say_wrong(words, "the run needs more than %u %s, which is the room of this case.", room, room == 1 ? "row" : "rows");
     if (least <= MOST_ROOM)
-        say_mend(words, "ask for room %u; it can be up to %d.", least, (int)MOST_ROOM);
+        say_mend(words, fault->study->case_is_text ? "write `room %u`; it can be up to %d." : "set the room to %u; it can be up to %d.", least, (int)MOST_ROOM);
     else
         say_mend(words, "the most that a case can ask for, %d rows, does not suffice.", (int)MOST_ROOM);
     say_mend(words, "fewer delays in the tables or fewer trains make the list shorter.");

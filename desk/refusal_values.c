@@ -102,7 +102,7 @@ void words_of_ends(const struct fault *fault, struct words *words)
               station_called(fault, body[1]).text, track_called(fault, same).text);
     if (text_level(fault) != NULL && same < text_level(fault)->tracks)
         say_wrong(words, "that one stands in line %u.", text_level(fault)->track[same].line);
-    say_mend(words, "take one of the two out, and let the other hold the trains of both.");
+    say_mend(words, "if this is the way back, swap its ends; otherwise take one of the two out, and let the other hold the trains of both.");
 }
 
 /* ---- 8 */

@@ -98,11 +98,31 @@ int is_times(const struct word *word, unsigned *arrival, unsigned *departure)
     return is_number(&first, MOST_WORD, arrival) && is_number(&second, MOST_WORD, departure);
 }
 
+/* The part of a train's line that a word is near to; null if there is none. */
+static const char *nearest_part(const struct word *word)
+{
+    static const char parts[][9] = {"delays", "type", "priority"};
+    const struct names names = {parts[0], sizeof *parts, sizeof parts / sizeof *parts};
+    return nearest_name(&names, word);
+}
+
 static int no_times(struct compiling *c, const struct word *word, const struct word *station)
 {
     expected(c->reader.error, word, "the minutes of arrival and departure, such as `2-3`, are expected after the station %s", said_word(station).text);
-    if (word->kind == PLAIN && word->at[0] >= '0' && word->at[0] <= '9')
+    if (!ends(word) && nearest_part(station) != NULL)
+        add_words(c->reader.error, "; is `%s` meant?", nearest_part(station));
+    else if (word->kind == PLAIN && word->at[0] >= '0' && word->at[0] <= '9')
         add_words(c->reader.error, "; write two numbers of 0 to %d with only a hyphen between them, and no 0 before them", (int)MOST_WORD);
+    else if (!ends(word))
+        add_words(c->reader.error, "; a name with spaces stands in double quotes");
+    return 0;
+}
+
+static int not_a_stop(struct compiling *c, const struct word *word)
+{
+    expected(c->reader.error, word, "a stop of train `%s`, such as `Face 2-3`, is expected", c->train->name);
+    if (c->train->stops == 0 && c->train->line == word->line && !ends(word))
+        add_words(c->reader.error, "; a name with spaces stands in double quotes");
     return 0;
 }
 
@@ -112,7 +132,7 @@ int read_stop(struct compiling *c, const struct word *station)
     struct stop *stop = &train->stop[train->stops];
     struct word times;
     if (!is_name(station))
-        return expected(c->reader.error, station, "a stop of train `%s`, such as `Face 2-3`, is expected", train->name);
+        return not_a_stop(c, station);
     if (!find_station(c, station, station, &stop->station))
         return 0;
     if (train->stops == MOST_STOPS)

@@ -269,7 +269,7 @@ static const struct damage damages[] = {
      "  where  shift.case: track 2, counted from 0\n"
      "  bytes  field 6, at byte 28: 03 00 03 00 01 02\n"
      "  wrong  Track 2 leads from station 0 to station 1, as track 0 does already.\n"
-     "  mend   Take one of the two out, and let the other hold the trains of both.\n"},
+     "  mend   If this is the way back, swap its ends; otherwise take one of the two out, and let the other hold the trains of both.\n"},
     {"8, an unknown station", 47, 1, "02", NULL, 8,
      "  where  shift.case: train 1, counted from 0\n"
      "  bytes  field 6, at byte 37: 04 00 0c 01 01 00 00 05 00 08 02 00 0b 00 0c\n"
@@ -454,7 +454,7 @@ static const struct words_said texts_said[] = {
      "  bytes  field 5 of the compiled case, at byte 22: 03 00 03 00 01 01\n"
      "  wrong  Track \"Second incline\" leads from station Face to station \"Lower Tip\", as track Incline does already.\n"
      "         That one stands in line 13.\n"
-     "  mend   Take one of the two out, and let the other hold the trains of both.\n"},
+     "  mend   If this is the way back, swap its ends; otherwise take one of the two out, and let the other hold the trains of both.\n"},
     {"10, in a book", 10,
      "  where  types.txt, line 3: delay table Men (delay table 0, counted from 0)\n"
      "  bytes  field 1 of the compiled book, at byte 0: 05 00 05 01 00 00 03 28\n"
@@ -498,7 +498,7 @@ static const char *const station_in_book_said =
 static const char *const little_room_said =
     "  where  early.txt\n"
     "  wrong  The run needs more than 8 rows, which is the room of this case.\n"
-    "  mend   Ask for room 9; it can be up to 1024.\n"
+    "  mend   Write `room 9`; it can be up to 1024.\n"
     "         Fewer delays in the tables or fewer trains make the list shorter.\n";
 
 static const char *const all_room_said =

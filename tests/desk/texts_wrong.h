@@ -150,6 +150,14 @@ static const struct wrong_text {
     {"window 9\nsafety 0\nstation Face holds 1\nstation Tip holds 1\ndelays Ore +0 100%\n"
      "train A delays Ore priority 1\n    Shfat 2-3\n",
      7, 5, "no station is called `Shfat`", A_CASE},
+    {"window 9\nsafety 0\ntrain Fleet 1 delays Ore priority 1\n", 3, 13,
+     "a stop of train `Fleet`, such as `Face 2-3`, is expected, and `1` stands here; a name with spaces stands in double quotes", A_CASE},
+    {"window 9\nsafety 0\ntrain A delays Ore prioritty 1\n", 3, 30,
+     "the minutes of arrival and departure, such as `2-3`, are expected after the station `prioritty`, and `1` stands here; is `priority` meant?", A_CASE},
+    {"window 9\nsafety 0\ntrain A delays Ore priority 1\n    Lower Tip 2-3\n", 4, 11,
+     "the minutes of arrival and departure, such as `2-3`, are expected after the station `Lower`, and `Tip` stands here; a name with spaces stands in double "
+     "quotes",
+     A_CASE},
     {"window 9\nsafety 0\nstation Face holds 1\nstation Tip holds 1\ndelays Ore +0 100%\n"
      "train A delays Ore priority 1\n    2-3\n",
      7, 5, "a stop of train `A`, such as `Face 2-3`, is expected, and `2-3` stands here", A_CASE},
