@@ -13,6 +13,7 @@ enum {
     MOST_STOPS = 8,
     MOST_PAIRS = 8,
     MOST_MINUTE = 719,
+    MOST_SAFETY = 30,
     MOST_ROOM = 1024,
     NAME_BYTES = 40,  /* of a station, track, train or table */
     TITLE_BYTES = 100 /* of the case */

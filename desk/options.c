@@ -168,6 +168,17 @@ static int store(struct request *request, const struct known_option *word, const
     return 1;
 }
 
+/* Says that the command has no such option, and which of its options it is near to. */
+static void no_option(const struct command *command, const char *option, size_t length)
+{
+    const struct word asked = {PLAIN, option, length, 0, 0};
+    const struct names names = {options[0].option, sizeof *options, COUNT(options)};
+    const char *nearest = nearest_name(&names, &asked);
+    const int is_its = nearest != NULL && find_option(command, nearest, strlen(nearest)) != NULL;
+    misused("%s has no option %.*s;%s%s%s `lampreysong %s --help` lists its options", command->name, (int)length, option, is_its ? " is it " : "",
+            is_its ? nearest : "", is_its ? "?" : "", command->name);
+}
+
 /* An option at the first word, and its value after = or in the next word. Gives the last word that it took; null, and said, if it is misused. */
 static char **read_option(const struct command *command, char **words, unsigned *given, struct request *request)
 {
@@ -175,7 +186,7 @@ static char **read_option(const struct command *command, char **words, unsigned 
     size_t length = equals != NULL ? (size_t)(equals - *words) : strlen(*words);
     const struct known_option *word = find_option(command, *words, length);
     if (word == NULL)
-        misused("%s has no option %.*s; `lampreysong %s --help` lists its options", command->name, (int)length, *words, command->name);
+        no_option(command, *words, length);
     else if (*given & word->bit)
         misused("%s is given twice", word->option);
     else if (word->kind == FLAG && equals != NULL)

@@ -1,7 +1,7 @@
 /* Refusals 6 to 9 in words: values out of range, the ends of tracks, paths and times. */
 #include "refusal_words.h"
 
-enum { STOP_BYTES = 5, MOST_SAFETY = 30 };
+enum { STOP_BYTES = 5 };
 
 /* ---- 6 */
 

@@ -10,14 +10,30 @@ int next(struct compiling *c, struct word *word)
 
 /* ---- numbers and names */
 
+/* The numbers that an error offers after a keyword. Which of those that its field can hold are sound is the reader's to judge. */
+struct range {
+    const char *keyword;
+    unsigned least, most;
+};
+
+static struct range range_after(const struct word *keyword, unsigned most)
+{
+    static const struct range ranges[] = {{"window", 1, MOST_MINUTE}, {"safety", 0, MOST_SAFETY}, {"room", 1, MOST_ROOM}, {"holds", 1, MOST_BYTE}};
+    for (unsigned i = 0; i < sizeof ranges / sizeof *ranges; i++)
+        if (is_word(keyword, ranges[i].keyword))
+            return ranges[i];
+    return (struct range){NULL, 0, most};
+}
+
 int read_number_after(struct compiling *c, const struct word *keyword, unsigned most, unsigned *number)
 {
+    const struct range range = range_after(keyword, most);
     struct word word;
     if (!next(c, &word))
         return 0;
     if (is_number(&word, most, number))
         return 1;
-    expected(c->reader.error, &word, "a whole number of 0 to %u is expected after %s", most, said_word(keyword).text);
+    expected(c->reader.error, &word, "a whole number of %u to %u is expected after %s", range.least, range.most, said_word(keyword).text);
     if (word.kind == PLAIN && word.length > 1 && word.at[0] == '0')
         add_words(c->reader.error, "; a number is written without a 0 before it");
     return 0;

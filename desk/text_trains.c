@@ -34,7 +34,7 @@ static int read_pair(struct compiling *c, const struct word *delay, struct table
     if (!next(c, &weight))
         return 0;
     if (!is_weight(&weight, &pair->weight))
-        return expected(c->reader.error, &weight, "a weight (0%% to 255%%, such as `40%%`) is expected after %s", said_word(delay).text);
+        return expected(c->reader.error, &weight, "a weight (1%% to 100%%, such as `40%%`) is expected after %s", said_word(delay).text);
     table->pairs++;
     return 1;
 }
@@ -112,7 +112,7 @@ static int no_times(struct compiling *c, const struct word *word, const struct w
     if (!ends(word) && nearest_part(station) != NULL)
         add_words(c->reader.error, "; is `%s` meant?", nearest_part(station));
     else if (word->kind == PLAIN && word->at[0] >= '0' && word->at[0] <= '9')
-        add_words(c->reader.error, "; write two numbers of 0 to %d with only a hyphen between them, and no 0 before them", (int)MOST_WORD);
+        add_words(c->reader.error, "; write two numbers of 0 to %d with only a hyphen between them, and no 0 before them", (int)MOST_MINUTE);
     else if (!ends(word))
         add_words(c->reader.error, "; a name with spaces stands in double quotes");
     return 0;
