@@ -7,8 +7,8 @@
 #include "refusal.h"
 #include "said.h"
 
-#define VERSION "1.0"
-#define RULES "document 01, no change requests"
+#define VERSION "1.1"
+#define RULES "document 01, change request 4 of document 02"
 
 /* The toolchain that proved the engine; who builds says it. */
 #ifndef TOOLCHAIN

@@ -2,17 +2,18 @@
 use mathlib.Core.Path.{_≡_, refl, ap, sym, _∙_, subst}
 use mathlib.Core.Bool.{Bool, true, false, not, cond, false≢true}
 use mathlib.Core.List.{List, [], _∷_, _++_}
-use Prim.Native.Nat.{ℕ, _+_, _*_, _/_, _%_, _≤_, _<_}
+use Prim.Native.Nat.{ℕ, _+_, _-_, _*_, _/_, _%_, _≤_, _<_}
 use native.Mathlib.Omega.{arith}
 use borrow.Author.Tests.{not-true, eqb-true, eqb-false, le-ltb, ltb-true, ltb-false}
 use lib.ListN.{length, take, getD}
 use lib.Dec.{eqb, ltb}
 use Rattle.rules.specs.Lists.{one, keep}
+use Rattle.rules.specs.Sweep.{firstToGo}
 use Rattle.theory_lists.specs.Every.{Every, every-append, every-more, every-keep}
 use Rattle.theory_lists.specs.Kept.{keep-passes}
 use Rattle.rows.specs.Rows.{Row, rowsOf, rowsIn, rowAt, endedOf, sweptOf}
 use Rattle.rows.specs.Written.{rowsIn-more}
-use Rattle.rows.specs.Swept.{Closing, next-row}
+use Rattle.rows.specs.Swept.{Closing, next-row, partOf, part-rows, stay-before}
 use Rattle.quiet.specs.Parts.{Sub, sub-trans}
 use Rattle.asking.specs.Ask.{dueOf}
 use Rattle.waiting.specs.Calm.{waitsOf, spot, spotOf, Settled, Told}
@@ -62,7 +63,7 @@ leaves-more t i l N M long h =
 -- the row that is read while the list closes up: it goes, or it stays
 module _ {t i : ℕ} {was : List ℕ} {j : ℕ} {rows : List ℕ} (h : Closing t i was j rows) (N M : List ℕ) (long : i * 2 + 2 ≤ length was) (before : Leaves t (rowsIn i was) N M) where
   left-here : leftOf t (getD rows (i * 2) 0) (getD rows (i * 2 + 1) 0) M ≡ leftOf t (getD was (i * 2) 0) (getD was (i * 2 + 1) 0) M
-  left-here = ap (λ (r : Row). leftOf t (r .state) (r .cover) M) (next-row h)
+  left-here = ap (λ (r : Row). leftOf t (r .state) (r .cover) M) (next-row h long)
 
   pub leaves-gone : endedOf t (getD rows (i * 2) 0) ≡ true → Leaves t (rowsIn (i + 1) was) N (toldAll 8 M (getD rows (i * 2) 0 / 4096 % 128) (getD rows (i * 2 + 1) 0))
   unfolding leftOf
@@ -75,6 +76,22 @@ module _ {t i : ℕ} {was : List ℕ} {j : ℕ} {rows : List ℕ} (h : Closing t
   leaves-kept e =
       subst (Leaves t (rowsIn (i + 1) was) N) (sym left-here ∙ ap (λ (b : Bool). cond b (toldAll 8 M (getD rows (i * 2) 0 / 4096 % 128) (getD rows (i * 2 + 1) 0)) M) e)
       (leaves-more t i was N M long before)
+
+-- rows that do not go have nothing to tell
+pub leaves-before : (t : ℕ) (a b : List Row) (N M : List ℕ) → Every (λ r. endedOf t (r .state) ≡ false) a → Leaves t b N M → Leaves t (a ++ b) N M
+leaves-before t a b N M stay h = record {
+  grows = h .grows;
+  flagged = h .flagged;
+  asked = h .asked;
+  known = every-append (Known t M) a b (every-more (λ r. endedOf t (r .state) ≡ false) (Known t M) (λ r no yes. absurd (false≢true (sym no ∙ yes))) a stay) (h .known);
+}
+
+-- what is told of the rows from the first that goes on is told of all
+pub leaves-all : (t n f : ℕ) (was N M : List ℕ) → n * 2 ≤ length was → f ≤ n → f ≡ firstToGo (λ x. endedOf t (x .state)) (rowsIn n was)
+    → Leaves t (rowsIn (n - f) (partOf f n was)) N M → Leaves t (rowsIn n was) N M
+leaves-all t n f was N M long low e h =
+    subst (λ (l : List Row). Leaves t l N M) (sym (part-rows f n was low long))
+    (leaves-before t (rowsIn f was) (rowsIn (n - f) (partOf f n was)) N M (stay-before t n was long f e) h)
 
 -- ---- rows that are due
 

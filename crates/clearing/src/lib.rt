@@ -3,22 +3,41 @@ ghost use mathlib.Core.Path.{_≡_};
 ghost use mathlib.Core.Bool.{false};
 ghost use Prim.Native.Nat.{_+_, _*_, _/_, _≤_, _<_};
 ghost use lib.ListN.{length, take};
+ghost use Rattle.rules.specs.Sweep.{firstToGo};
 ghost use Rattle.theory_lists.specs.Every.{Every};
-ghost use Rattle.rows.specs.Rows.{rowsOf, rowsIn, endedOf, sweptOf};
+ghost use Rattle.rows.specs.Rows.{rowsOf, rowsIn, endedOf, Swept};
+ghost use Rattle.rows.specs.Swept.{Closing};
 ghost use Rattle.waiting.specs.Notes.{Flagged};
 ghost use Rattle.visiting.specs.Visit.{Kept, Ways, Noted};
 ghost use Rattle.clearing.specs.Clear.{markedOf, Leaves, Marks, Due, Cleared, Enrols};
 
-// The blocks that end before t go from the first n rows, which close up, and the pairs of their places are told. Returns how many rows are left.
-fn sweep(rows: &mut [u64], n: usize, notes: &mut [u64], t: u64) -> usize
+// The first of the first n rows that is a block that ended before t, or n. No row is written: what stands before it is not moved.
+fn first_ended(rows: &[u64], n: usize, t: u64) -> usize
+    requires { ⌜ n * 2 ≤ length (now rows) ⌝ }
+    ensures { λ r. ⌜ (r ≤ n) × (r ≡ firstToGo (λ x. endedOf t (x .state)) (rowsIn n (now (rows .entry)))) ⌝ }
+{
+    let mut i = 0;
+    while i < n {
+        if rows::ended(rows[i * 2], t) {
+            return i;
+        }
+        i += 1;
+    }
+    n
+}
+
+// The blocks that end before t go from n rows: each row is read once, in turn, and is told to the pairs of its place if it goes; if it stays, it is written
+// once, to the next free place. Returns how many rows are left.
+fn close_up(rows: &mut [u64], n: usize, notes: &mut [u64], t: u64) -> usize
     requires { ⌜ (n * 2 ≤ length (now rows)) × Flagged (now notes) ⌝ }
-    ensures { λ r. ⌜ (r ≤ n) × (rowsIn r (now (rows .exit)) ≡ sweptOf t (rowsIn n (now (rows .entry)))) × Leaves t (rowsIn n (now (rows .entry))) (now (notes .entry)) (now (notes .exit)) ⌝ }
+    ensures { λ r. ⌜ Closing t n (now (rows .entry)) r (now (rows .exit)) × Leaves t (rowsIn n (now (rows .entry))) (now (notes .entry)) (now (notes .exit)) ⌝ }
 {
     let mut i = 0;
     let mut j = 0;
     while i < n {
-        let s = rows[i * 2];
-        let c = rows[i * 2 + 1];
+        let at = i * 2;
+        let s = rows[at];
+        let c = rows[at + 1];
         if rows::ended(s, t) {
             let e = s / 4096 % 128;
             waiting::tell_all(notes, e as usize, c);
@@ -30,6 +49,19 @@ fn sweep(rows: &mut [u64], n: usize, notes: &mut [u64], t: u64) -> usize
         i += 1;
     }
     j
+}
+
+// The blocks that end before t go from the first n rows in one sweep, and the pairs of their places are told. Only the rows from the first of them on are lent
+// to be written, and each that stays is written at most once. Returns how many rows are left.
+fn sweep(rows: &mut [u64], n: usize, notes: &mut [u64], t: u64) -> usize
+    requires { ⌜ (n * 2 ≤ length (now rows)) × Flagged (now notes) ⌝ }
+    ensures { λ r. ⌜ Swept t n (now (rows .entry)) r (now (rows .exit)) × Leaves t (rowsIn n (now (rows .entry))) (now (notes .entry)) (now (notes .exit)) ⌝ }
+{
+    let f = first_ended(rows, n, t);
+    let from = f * 2;
+    let to = n * 2;
+    let left = close_up(&mut rows[from..to], n - f, notes, t);
+    f + left
 }
 
 // If s is a standing state that is due at t, its rows with covers among c wait now.

@@ -15,6 +15,7 @@ use Rattle.rules.specs.Turns.Place.{gone}
 use Rattle.rules.specs.Joint.{Cover, whole, Entry, piece, carry, meets}
 use Rattle.theory_sound.specs.Facts.{Sound}
 use Rattle.theory_lists.specs.Every.{Every, every-each, every-one, every-more}
+use Rattle.theory_lists.specs.Sweeps.{sweepMoves, sweep-map}
 use Rattle.theory_simulation.specs.Parts.{Part, Parts}
 use Rattle.theory_simulation.specs.Serving.{Proper}
 use Rattle.theory_codes.specs.Codes.{codeOf, placeOf, stateOf}
@@ -26,7 +27,7 @@ use Rattle.cut.specs.Cut.{part, carried}
 use Rattle.cut.specs.Packed.{packed, packedPiece, Delays, Sets, Packable}
 use Rattle.cut.specs.Packed.Delays.{none, takes, skips}
 use Rattle.cut.specs.Bridge.{carried-carry}
-use Rattle.rows.specs.Rows.{Row, row, meetsOf, metOf, sweptOf}
+use Rattle.rows.specs.Rows.{Row, row, endedOf, meetsOf, metOf, sweptOf}
 use Rattle.asking.specs.declared.Job.{Job}
 use Rattle.asking.specs.Ask.{nextOf, asksOf, capOf, metFor}
 use Rattle.theory_codes.specs.Places.{known-coded, coded-small, place-code, code-place, code-test, head-code, place-coded}
@@ -196,3 +197,10 @@ swept-rows C sound t (r ∷ l) h =
     go : (b : Bool) → one b (rowOf r) ++ map rowOf (keep (λ r. not (ended t (r .mark))) l) ≡ map rowOf (one b r ++ keep (λ r. not (ended t (r .mark))) l)
     go true = refl
     go false = refl
+
+-- the sweep moves the rows as it would move the entries that they stand for
+pub swept-moves : (C : Case) → Sound C → (t : ℕ) (l : List Entry) → Every (Good C) l → sweepMoves (λ x. endedOf t (x .state)) (map rowOf l) ≡ sweepMoves (λ r. ended t (r .mark)) l
+unfolding rowOf
+swept-moves C sound t l h =
+    sweep-map rowOf (λ r. ended t (r .mark)) (λ x. endedOf t (x .state)) l
+    (every-more (Good C) (λ r. endedOf t (rowOf r .state) ≡ ended t (r .mark)) (λ r g. ended-state (r .mark) (bounded-fit C sound (r .mark) (g .0)) t) l h)

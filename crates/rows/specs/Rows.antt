@@ -3,9 +3,11 @@ use mathlib.Core.Path.{_≡_}
 use mathlib.Core.Bool.{Bool, false, not, cond}
 use mathlib.Core.List.{List, [], _∷_, map}
 use Prim.Native.Nat.{ℕ, _+_, _*_, _/_, _%_, _≤_}
-use lib.ListN.{length, take, getD}
+use lib.ListN.{length, take, drop, getD}
 use lib.Dec.{ltb, eqb}
 use Rattle.rules.specs.Lists.{one, each, keep}
+use Rattle.rules.specs.Sweep.{afterMoves}
+use Rattle.theory_lists.specs.Sweeps.{sweepMoves}
 
 pub record Row : Type 0 where
   pub state : ℕ
@@ -57,6 +59,14 @@ metOf e k rs = each (λ r. one (meetsOf e k (r .state)) (r .cover)) rs
 -- the rows that stay when the blocks that end before t go
 unfoldable pub sweptOf : ℕ → List Row → List Row
 sweptOf t rs = keep (λ r. not (endedOf t (r .state))) rs
+
+-- the blocks that end before t have gone from the first n rows of `was` in one sweep, and r rows are left: they are 01's list, the places are what the sweep's
+-- moves make of them, and what stands behind is as it was
+pub record Swept (t n : ℕ) (was : List ℕ) (r : ℕ) (rows : List ℕ) : Type 0 where
+  pub few : r ≤ n
+  pub list : rowsIn r rows ≡ sweptOf t (rowsIn n was)
+  pub places : rowsIn n rows ≡ afterMoves (sweepMoves (λ x. endedOf t (x .state)) (rowsIn n was)) (rowsIn n was)
+  pub past : drop (n * 2) rows ≡ drop (n * 2) was
 
 -- a held cover keeps its state
 unfoldable pub heldRows : ℕ → List ℕ → List Row

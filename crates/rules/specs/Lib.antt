@@ -5,6 +5,7 @@ pub mod Viewer
 pub mod Turns
 pub mod Single
 pub mod Joint
+pub mod Sweep
 pub mod Listing
 pub mod Figures
 pub mod Answers

@@ -7,3 +7,4 @@ pub mod Writes
 pub mod Folds
 pub mod Kept
 pub mod Items
+pub mod Sweeps

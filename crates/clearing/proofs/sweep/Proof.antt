@@ -1,136 +1,80 @@
--- `clearing::sweep` meets its contract. The invariant is `Closing`: the kept rows stand first, and what is still to be read is unchanged; and the pairs that
--- the rows read so far concern are told. Assumes nothing.
-use mathlib.Core.Path.{_≡_, refl, sym, ap, _∙_}
-use mathlib.Core.Bool.{not}
-use mathlib.Core.Logic.{⊎-elim}
-use Prim.Native.Nat.{_+_, _-_, _*_, _≤_}
+-- `clearing::sweep` meets its contract: the rows before the first that goes are as they were, and those from it on are closed up. Assumes nothing.
+use Prim.Native.Nat.{_-_}
 use native.Mathlib.Omega.{arith}
-use lib.ListN.{length, getD, length-set}
-use Rattle.rows.specs.Rows.{rowsIn, rowsOf}
-use Rattle.rows.specs.Swept.{Closing, closing-none, closing-kept, closing-gone}
-use Rattle.clearing.specs.Clear.{Leaves}
-use Rattle.clearing.specs.Clearing.{leaves-none, leaves-gone, leaves-kept}
+use Rattle.rows.specs.Swept.{partOf, part-long, swept-few, sweep-done}
+use Rattle.clearing.specs.Clearing.{leaves-all}
 use borrow.Author.Needs.{needs}
 use Rattle.clearing.proofs.sweep.Statement.{statement}
 use Rattle.clearing.proofs.sweep.Tie as tie
 use Rattle.clearing.proofs.sweep.Reads as reads
 use Rattle.clearing.proofs.sweep.Lts as lts
-use Rattle.rows.proofs.ended.Reads as ended-reads
-use Rattle.waiting.proofs.tell_all.Reads as tell-all-reads
+use Rattle.clearing.proofs.close_up.Reads as close-up-reads
+use Rattle.clearing.proofs.first_ended.Reads as first-ended-reads
 
-abbrev Inv-loop : tie.InvT-loop
-Inv-loop rows₀ n notes₀ t i₀ j₀ rows notes i j = (j ≤ i) × (i ≤ n) × Closing t i rows₀ j rows × Leaves t (rowsIn i rows₀) notes₀ notes × (length notes ≡ length notes₀)
+first-ended-requires : tie.Need-first-ended-requires
+first-ended-requires c κs = search needs
 
-abbrev μ-loop : tie.MeasureT-loop
-μ-loop rows₀ n notes₀ t i₀ j₀ rows notes i j = n - i
+mul-from : tie.Need-mul-from
+mul-from c = search needs
 
-loop-holds : tie.Need-loop-holds Inv-loop μ-loop
-unfolding rowsOf
-loop-holds c = let s = c .before .before .args in (omega arith, omega arith, closing-none (s .t) (s .rows .now), leaves-none (s .t) (s .notes .now) (c .before .before .pre .1), refl)
+mul-to : tie.Need-mul-to
+mul-to c = search needs
 
-mul-s : tie.Need-mul-s Inv-loop μ-loop
-mul-s c = search needs
+mul-close-up : tie.Need-mul-close-up
+mul-close-up c = search needs
 
-mul-s-2 : tie.Need-mul-s-2 Inv-loop μ-loop
-mul-s-2 c = search needs
+sub-close-up : tie.Need-sub-close-up
+sub-close-up c = search needs
 
-slice-read-s : tie.Need-slice-read-s Inv-loop μ-loop
-slice-read-s c = search needs
+part-close-up-start : tie.Need-part-close-up-start
+part-close-up-start c = search needs
 
-mul-c : tie.Need-mul-c Inv-loop μ-loop
-mul-c c = search needs
+part-close-up-end : tie.Need-part-close-up-end
+part-close-up-end c = search needs
 
-add-c : tie.Need-add-c Inv-loop μ-loop
-add-c c = search needs
+sub-close-up-2 : tie.Need-sub-close-up-2
+sub-close-up-2 c = search needs
 
-mul-c-2 : tie.Need-mul-c-2 Inv-loop μ-loop
-mul-c-2 c = search needs
+close-up-requires : tie.Need-close-up-requires
+close-up-requires c κs = search needs
 
-slice-read-c : tie.Need-slice-read-c Inv-loop μ-loop
-slice-read-c c = search needs
+add-result : tie.Need-add-result
+add-result c =
+    let s = c .before .before .before .before .before .before .before .before .before .before .before .args in
+    let f = c .before .before .before .before .before .before .before .first-ended .result in
+    let part = partOf f (s .n) (s .rows .now) in
+    let long = part-long f (s .n) (s .rows .now) (omega arith) (omega arith) in
+    omega (arith, c .before .before .before .before .close-up .ensures .0 .left, swept-few (s .t) (s .n - f) part (omega (arith, long)))
 
-ended-requires : tie.Need-ended-requires Inv-loop μ-loop
-ended-requires c κs = search needs
+same-length : tie.Need-same-length
+same-length c = search needs
 
-tell-all-requires : tie.Need-tell-all-requires Inv-loop μ-loop
-tell-all-requires c κs = (c .before .before .before .before .before .before .loop .inv .3 .flagged .long, omega arith)
+same-length-2 : tie.Need-same-length-2
+same-length-2 c = search needs
 
-mul-rows : tie.Need-mul-rows Inv-loop μ-loop
-mul-rows c = search needs
-
-mul-rows-2 : tie.Need-mul-rows-2 Inv-loop μ-loop
-mul-rows-2 c = search needs
-
-slice-write-rows : tie.Need-slice-write-rows Inv-loop μ-loop
-slice-write-rows c = search needs
-
-mul-rows-3 : tie.Need-mul-rows-3 Inv-loop μ-loop
-mul-rows-3 c = search needs
-
-add-rows : tie.Need-add-rows Inv-loop μ-loop
-add-rows c = search needs
-
-mul-rows-4 : tie.Need-mul-rows-4 Inv-loop μ-loop
-mul-rows-4 c = search needs
-
-slice-write-rows-2 : tie.Need-slice-write-rows-2 Inv-loop μ-loop
-slice-write-rows-2 c = omega (arith, c .before .before .before .before .before .loop .inv .2 .long, length-set (c .before .before .before .before .before .loop .rows) (c .before .before .before .before .before .loop .j * 2) (getD (c .before .before .before .before .before .loop .rows) (c .before .before .before .before .before .loop .i * 2) 0))
-
-add-j : tie.Need-add-j Inv-loop μ-loop
-add-j c = search needs
-
-add-i : tie.Need-add-i Inv-loop μ-loop
-add-i c = search needs
-
-loop-less : tie.Need-loop-less Inv-loop μ-loop
-loop-less c = search needs
-
-loop-again : tie.Need-loop-again Inv-loop μ-loop
-loop-again c =
-    let s = c .before .before .before .before .before .before .before .before .args in
-    let at = c .before .before .before .before .before .loop in
-    let long : at .i * 2 + 2 ≤ length (s .rows .now) = omega arith in
-    ⊎-elim
-    (λ w. let gone = sym (c .before .ended .ensures) ∙ w .0 .taken in rw (w .5, w .6, w .7, w .2 .ensures) (omega arith, omega arith, closing-gone (at .inv .2) long (ap not gone), leaves-gone (at .inv .2) (s .notes .now) (at .notes) long (at .inv .3) gone, leaves-gone (at .inv .2) (s .notes .now) (at .notes) long (at .inv .3) gone .flagged .long ∙ sym (at .inv .3 .flagged .long) ∙ at .inv .4))
-    (λ w. let stays = sym (c .before .ended .ensures) ∙ w .0 .left in rw (w .1, w .2, w .3) (omega arith, omega arith, closing-kept (at .inv .2) (at .inv .0) long (ap not stays), leaves-kept (at .inv .2) (s .notes .now) (at .notes) long (at .inv .3) stays, at .inv .4))
-    (c .if1 .came)
-
-same-length : tie.Need-same-length Inv-loop μ-loop
-same-length c = c .before .loop .inv .2 .long
-
-same-length-2 : tie.Need-same-length-2 Inv-loop μ-loop
-same-length-2 c = c .before .loop .inv .4
-
-returns : tie.Need-returns Inv-loop μ-loop
-returns c = let e : c .before .loop .i ≡ c .before .before .before .before .args .n = omega arith in (omega arith, rw (← e) (c .before .loop .inv .2 .first), rw (← e) (c .before .loop .inv .3))
+returns : tie.Need-returns
+returns c =
+    let s = c .before .before .before .before .before .before .before .before .before .before .before .args in
+    let first = c .before .before .before .before .before .before .before .first-ended in
+    let closed = c .before .before .before .before .close-up in (
+      sweep-done (s .t) (s .n) (first .result) (closed .result) (s .rows .now) (closed .last .0) (omega arith) (first .ensures .1) (closed .ensures .0),
+      leaves-all (s .t) (s .n) (first .result) (s .rows .now) (s .notes .now) (closed .last .1 .1 .0) (omega arith) (omega arith) (first .ensures .1) (closed .ensures .1),
+    )
 
 pub sweep-spec : {M : Type 1} → statement M
 sweep-spec =
     tie.close
     (tie.spec
-    Inv-loop
-    μ-loop
-    loop-holds
-    mul-s
-    mul-s-2
-    slice-read-s
-    mul-c
-    add-c
-    mul-c-2
-    slice-read-c
-    ended-requires
-    tell-all-requires
-    mul-rows
-    mul-rows-2
-    slice-write-rows
-    mul-rows-3
-    add-rows
-    mul-rows-4
-    slice-write-rows-2
-    add-j
-    add-i
-    loop-less
-    loop-again
+    first-ended-requires
+    mul-from
+    mul-to
+    mul-close-up
+    sub-close-up
+    part-close-up-start
+    part-close-up-end
+    sub-close-up-2
+    close-up-requires
+    add-result
     same-length
     same-length-2
     returns)
