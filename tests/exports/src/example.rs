@@ -84,7 +84,7 @@ fn single_runs() -> Checks {
 }
 
 /// The weight of a train in a minute.
-fn weight(lent: &Lent, train: usize, minute: usize) -> u64 {
+pub fn weight(lent: &Lent, train: usize, minute: usize) -> u64 {
     let at = (train * 720 + minute) * WEIGHT_BYTES;
     let longer = |sum: u64, byte: &u8| sum * 256 + u64::from(*byte);
     let bytes = &lent.weights.part()[at..at + WEIGHT_BYTES];

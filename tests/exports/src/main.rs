@@ -3,16 +3,21 @@
 //! `exports fixed FILE`: compares them with the second program on the fixed inputs, and with the vectors worked out by hand in FILE.
 //! `exports seeds SEED [COUNT]`: compares them on the inputs drawn from COUNT seeds, or for ever; a difference ends it and is printed with its seed.
 //! `exports spoiled`: shows that the comparison catches exports that are spoiled in one way after another.
+//! `exports vectors FILE EXCEPTIONS`: puts the vectors of a stage to them; those of the second file can't hold yet, and are answered as 01 says.
+//! `exports changed FILE EXCEPTIONS CHANGES`: shows that each change of these two files is found.
 
 mod called;
+mod changed;
 mod compare;
 mod example;
 mod fields;
 mod lengths;
 mod memory;
 mod refusals;
+mod said;
 mod spoiled;
 mod tally;
+mod vectors;
 
 use called::Linked;
 use compare::{agrees, compare};
@@ -32,6 +37,8 @@ fn main() -> ExitCode {
         ["calls"] => calls(),
         ["fixed", file] => fixed_inputs(file),
         ["spoiled"] => spoiled_exports(),
+        ["vectors", file, exceptions] => vectors_of_a_stage(file, exceptions),
+        ["changed", file, exceptions, changes] => changed_vectors(file, exceptions, changes),
         ["seeds", seed] => match number(seed) {
             Some(seed) => seeds(seed, None),
             None => usage(),
@@ -45,7 +52,10 @@ fn main() -> ExitCode {
 }
 
 fn usage() -> ExitCode {
-    eprintln!("use: exports calls | fixed FILE | seeds SEED [COUNT] | spoiled");
+    eprintln!(
+        "use: exports calls | fixed FILE | seeds SEED [COUNT] | spoiled \
+         | vectors FILE EXCEPTIONS | changed FILE EXCEPTIONS CHANGES"
+    );
     ExitCode::from(2)
 }
 
@@ -64,11 +74,15 @@ fn fixed_inputs(file: &str) -> ExitCode {
     let inputs = fixed();
     compare(&Linked, &inputs, &mut tally);
     println!("{} inputs", inputs.len());
-    let lines = std::fs::read_to_string(file).expect("the vectors worked out by hand");
-    for line in lines.lines() {
+    for line in text(file).lines() {
         tally.expect(worked(line), || format!("differs: {line}"));
     }
     tally.close()
+}
+
+/// The text of a file.
+fn text(file: &str) -> String {
+    std::fs::read_to_string(file).unwrap_or_else(|error| panic!("{file}: {error}"))
 }
 
 /// Whether a vector worked out by hand is what the second program says, and the exports too.
@@ -118,5 +132,21 @@ fn spoiled_exports() -> ExitCode {
         };
         tally.expect(inputs.iter().any(caught), || format!("not caught: {way}"));
     }
+    tally.close()
+}
+
+/// The vectors of a stage, and the exceptions among them.
+fn vectors_of_a_stage(file: &str, exceptions: &str) -> ExitCode {
+    let mut tally = Tally::default();
+    for wrong in vectors::found(&text(file), &text(exceptions)) {
+        tally.expect(wrong.is_none(), || wrong.unwrap_or_default());
+    }
+    tally.close()
+}
+
+/// Each change of the vectors or their exceptions is found.
+fn changed_vectors(file: &str, exceptions: &str, changes: &str) -> ExitCode {
+    let mut tally = Tally::default();
+    changed::changed(&text(file), &text(exceptions), &text(changes), &mut tally);
     tally.close()
 }
