@@ -8,6 +8,7 @@ pub mod faulty;
 pub mod generator;
 pub mod made;
 pub mod questions;
+pub mod sweeps;
 pub mod trace;
 pub mod vectors;
 pub mod writer;
