@@ -6,6 +6,9 @@ const PROCESS: i32 = 2;
 /// The seconds after which no further run is begun, even where only one was timed.
 const LONGEST: f64 = 10.0;
 
+/// The seconds that a bundle of runs takes at least: the clock can stand still for some 10 µs, and that is then little.
+const BUNDLE: f64 = 0.002;
+
 #[repr(C)]
 struct Time {
     seconds: i64,
@@ -27,14 +30,55 @@ fn now() -> f64 {
     time.seconds as f64 + time.nanoseconds as f64 / 1e9
 }
 
-/// The microseconds of the quickest of several runs: as many as the seconds allow, and at least two unless the first alone is very long.
-pub fn quickest(seconds: f64, mut run: impl FnMut()) -> f64 {
-    let (start, mut runs, mut least) = (now(), 0, f64::INFINITY);
-    while now() - start < if runs < 2 { LONGEST } else { seconds } {
-        let began = now();
-        run();
-        least = least.min(now() - began);
-        runs += 1;
+/// What was timed of one run: how many make a bundle, how many bundles were timed, and the seconds of one run in the quickest of them.
+struct Timing {
+    runs: u32,
+    bundles: u32,
+    least: f64,
+}
+
+impl Timing {
+    fn new() -> Timing {
+        Timing {
+            runs: 1,
+            bundles: 0,
+            least: f64::INFINITY,
+        }
     }
-    least * 1e6
+
+    /// Times one bundle more; one that is too short counts for nothing, and the next is twice as long.
+    fn bundle(&mut self, run: &mut impl FnMut()) {
+        let mut spent = self.spent(run);
+        while spent < BUNDLE {
+            self.runs *= 2;
+            spent = self.spent(run);
+        }
+        self.bundles += 1;
+        self.least = self.least.min(spent / f64::from(self.runs));
+    }
+
+    /// The seconds that the runs of a bundle take.
+    fn spent(&self, run: &mut impl FnMut()) -> f64 {
+        let began = now();
+        (0..self.runs).for_each(|_| run());
+        now() - began
+    }
+
+    /// Whether so many seconds are enough: two bundles have to be timed, unless the first alone is very long.
+    fn suffices(&self, spent: f64, seconds: f64) -> bool {
+        spent >= if self.bundles < 2 { LONGEST } else { seconds }
+    }
+
+    fn micros(&self) -> f64 {
+        self.least * 1e6
+    }
+}
+
+/// The microseconds of one run in the quickest of several bundles: as many as the seconds allow.
+pub fn quickest(seconds: f64, mut run: impl FnMut()) -> f64 {
+    let (start, mut timing) = (now(), Timing::new());
+    while !timing.suffices(now() - start, seconds) {
+        timing.bundle(&mut run);
+    }
+    timing.micros()
 }
