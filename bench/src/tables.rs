@@ -1,8 +1,10 @@
 //! The tables that are printed.
 
+use crate::cases::Files;
+use crate::counts::counts;
 use crate::exported::Desk;
+use crate::measured::{exported_run, Measured, MOST_CHOICES, SOME_CHOICES};
 use crate::series::{case, series, Shape};
-use crate::{exported_run, rows_of, Files, Measured, MOST_CHOICES, SOME_CHOICES};
 use second::plan::Plan;
 
 /// The times of the three runs, and the second program's as multiples of the exported run's.
@@ -34,9 +36,9 @@ pub fn print_costs(measured: &[(Files, Plan, Measured)]) {
             "| {} | {trains} | {minutes} | {} | {} | {} | {} ns |",
             files.name,
             of.choices,
-            of.rows.most,
+            of.counts.most_rows,
             time(of.exported / f64::from(minutes)),
-            figure(of.exported * 1e3 / of.rows.sum as f64),
+            figure(of.exported * 1e3 / of.counts.rows as f64),
         );
     }
     println!();
@@ -60,18 +62,18 @@ fn print_shape(grows: &str, shape: Shape) {
         case: case(shape),
         book: Vec::new(),
     };
-    let plan = Plan::read(&files.case, &files.book).expect("a sound case");
-    let rows = rows_of(&plan);
+    let plan = files.plan();
+    let counts = counts(&plan);
     let spent = exported_run(&mut Desk::new(), &files, plan.head.last_minute);
     println!(
         "| {grows} | {} | {} | {} | {} | {} | {} | {} ns |",
         shape.trains,
         shape.delays,
         shape.minutes + 1,
-        rows.most,
+        counts.most_rows,
         time(spent),
         time(spent / f64::from(shape.minutes + 1)),
-        figure(spent * 1e3 / rows.sum as f64),
+        figure(spent * 1e3 / counts.rows as f64),
     );
 }
 

@@ -1,0 +1,41 @@
+//! The cases that are timed: those of a folder, each with the book beside it.
+
+use second::plan::Plan;
+use std::path::{Path, PathBuf};
+
+/// A case and its book.
+pub struct Files {
+    pub name: String,
+    pub case: Vec<u8>,
+    pub book: Vec<u8>,
+}
+
+impl Files {
+    /// The case as the second program runs it.
+    pub fn plan(&self) -> Plan {
+        Plan::read(&self.case, &self.book).expect("a sound case")
+    }
+}
+
+/// The cases of the folder by name, all or those whose names begin with one of the words.
+pub fn cases(folder: &str, words: &[String]) -> Vec<Files> {
+    let entries = std::fs::read_dir(folder).expect("the folder of cases");
+    let mut paths: Vec<PathBuf> = entries.map(|entry| entry.expect("a file").path()).collect();
+    paths.retain(|path| path.extension().map_or(false, |end| end == "case"));
+    paths.sort();
+    let all: Vec<Files> = paths.iter().map(|path| read(path)).collect();
+    let meant = |files: &Files| words.iter().any(|word| files.name.starts_with(word));
+    all.into_iter()
+        .filter(|files| words.is_empty() || meant(files))
+        .collect()
+}
+
+/// A case and the book beside it.
+fn read(path: &Path) -> Files {
+    let name = path.file_stem().unwrap_or_default();
+    Files {
+        name: name.to_string_lossy().into_owned(),
+        case: std::fs::read(path).expect("a case"),
+        book: std::fs::read(path.with_extension("book")).unwrap_or_default(),
+    }
+}
