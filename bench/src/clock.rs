@@ -82,3 +82,13 @@ pub fn quickest(seconds: f64, mut run: impl FnMut()) -> f64 {
     }
     timing.micros()
 }
+
+/// The same of two runs that are timed in turns, each for about so many seconds.
+pub fn in_turns(seconds: f64, mut one: impl FnMut(), mut other: impl FnMut()) -> (f64, f64) {
+    let (start, mut first, mut second) = (now(), Timing::new(), Timing::new());
+    while !second.suffices(now() - start, 2.0 * seconds) {
+        first.bundle(&mut one);
+        second.bundle(&mut other);
+    }
+    (first.micros(), second.micros())
+}

@@ -1,10 +1,16 @@
-//! The program `bench FOLDER [CASE..]`: times the exported run over the whole window on the cases of a folder, or on those whose names begin so, beside
-//! the second program's joint run and its enumeration of all choices. All is timed in one process; what it prints is Markdown.
+//! The program of the benchmark, which times the exported run over the whole window. What it prints is Markdown.
+//!
+//! - `bench second FOLDER [CASE..]`: beside the second program's joint run and its enumeration of all choices;
+//! - `bench beside THIS OTHER FOLDER [CASE..]`: two builds of the library in turns, each as a shared object.
+//!
+//! FOLDER has the cases; with words, only those are taken whose names begin with one of them. All is timed in one process.
 
+mod beside;
 mod cases;
 mod clock;
 mod counts;
 mod exported;
+mod library;
 mod measured;
 mod series;
 mod tables;
@@ -13,9 +19,27 @@ use cases::cases;
 
 fn main() {
     let words: Vec<String> = std::env::args().skip(1).collect();
-    let folder = words.first().expect("use: bench FOLDER [CASE..]");
-    let measured = measured::measured(cases(folder, &words[1..]));
+    match words.first().map(String::as_str) {
+        Some("second") if words.len() > 1 => second(&words[1], &words[2..]),
+        Some("beside") if words.len() > 3 => beside(&words[1..3], &words[3], &words[4..]),
+        _ => {
+            eprintln!("use: bench second FOLDER [CASE..]");
+            eprintln!("     bench beside THIS OTHER FOLDER [CASE..]");
+            std::process::exit(2);
+        }
+    }
+}
+
+/// The exported run beside the second program, and on series of cases in which one thing grows.
+fn second(folder: &str, words: &[String]) {
+    let measured = measured::measured(cases(folder, words));
     tables::print_ratios(&measured);
     tables::print_costs(&measured);
     tables::print_series();
+}
+
+/// This build beside another one.
+fn beside(libraries: &[String], folder: &str, words: &[String]) {
+    let mut both = beside::Both::open(&libraries[0], &libraries[1]);
+    both.print_cases(&cases(folder, words));
 }

@@ -10,7 +10,7 @@ use second::plan::Plan;
 use second::single;
 
 /// The seconds within which each figure is taken.
-const SECONDS: f64 = 1.0;
+pub const SECONDS: f64 = 1.0;
 /// The most choices that are all run.
 pub const MOST_CHOICES: u64 = 1_024;
 /// The choices that are run where there are more; the time of all is reckoned from them.

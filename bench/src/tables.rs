@@ -78,7 +78,7 @@ fn print_shape(grows: &str, shape: Shape) {
 }
 
 /// A time in the unit that suits it.
-fn time(micros: f64) -> String {
+pub fn time(micros: f64) -> String {
     match micros {
         m if m < 1e3 => format!("{} µs", figure(m)),
         m if m < 1e6 => format!("{} ms", figure(m / 1e3)),
@@ -87,7 +87,7 @@ fn time(micros: f64) -> String {
 }
 
 /// A number with about three digits.
-fn figure(x: f64) -> String {
+pub fn figure(x: f64) -> String {
     match x {
         x if x < 1.0 => format!("{x:.3}"),
         x if x < 10.0 => format!("{x:.2}"),

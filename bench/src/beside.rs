@@ -1,0 +1,52 @@
+//! Two builds of the library beside each other: this one and another.
+
+use crate::cases::Files;
+use crate::clock::in_turns;
+use crate::library::Library;
+use crate::measured::SECONDS;
+use crate::tables::{figure, time};
+
+/// This build and the other one.
+pub struct Both {
+    this: Library,
+    other: Library,
+}
+
+impl Both {
+    pub fn open(this: &str, other: &str) -> Both {
+        Both {
+            this: Library::open(this),
+            other: Library::open(other),
+        }
+    }
+
+    /// The times of both builds on cases.
+    pub fn print_cases(&mut self, cases: &[Files]) {
+        println!("| case | this build | other build | other / this |");
+        println!("|---|---|---|---|");
+        for files in cases {
+            let (this, other) = self.time(files);
+            println!(
+                "| {} | {} | {} | {} |",
+                files.name,
+                time(this),
+                time(other),
+                figure(other / this),
+            );
+        }
+    }
+
+    /// The microseconds of the run over the whole window, of this build and of the other, which have to answer the same.
+    fn time(&mut self, files: &Files) -> (f64, f64) {
+        eprintln!("{}", files.name);
+        let (this, other) = (&mut self.this, &mut self.other);
+        let last = files.plan().head.last_minute;
+        let times = in_turns(SECONDS, || this.run(files, last), || other.run(files, last));
+        let name = &files.name;
+        assert!(this.answer.refusal == 0, "{name}: refused");
+        assert!(this.answer == other.answer, "{name}: the answers differ");
+        assert!(this.rows == other.rows, "{name}: the rows differ");
+        assert!(this.weights == other.weights, "{name}: the weights differ");
+        times
+    }
+}
