@@ -2,6 +2,7 @@
 
 use crate::cases::Files;
 use crate::clock::in_turns;
+use crate::counts::counts;
 use crate::library::Library;
 use crate::measured::SECONDS;
 use crate::tables::{figure, time};
@@ -22,6 +23,9 @@ impl Both {
 
     /// The times of both builds on cases.
     pub fn print_cases(&mut self, cases: &[Files]) {
+        if cases.is_empty() {
+            return;
+        }
         println!("| case | this build | other build | other / this |");
         println!("|---|---|---|---|");
         for files in cases {
@@ -34,6 +38,38 @@ impl Both {
                 figure(other / this),
             );
         }
+        println!();
+    }
+
+    /// The times of both builds on cases in which many blocks end in one minute, with the rows that move when these go, and the times for each of the most rows.
+    pub fn print_waves(&mut self, cases: &[Files]) {
+        if cases.is_empty() {
+            return;
+        }
+        println!("| case | most rows | most blocks that end in one minute | rows moved: one sweep a minute | closed up for each block | this build | other build | other / this | this build, a row | other build, a row |");
+        println!("|---|---|---|---|---|---|---|---|---|---|");
+        cases.iter().for_each(|files| self.print_wave(files));
+        println!();
+    }
+
+    /// A line of that table.
+    fn print_wave(&mut self, files: &Files) {
+        let (this, other) = self.time(files);
+        let counts = counts(&files.plan());
+        let rows = counts.most_rows as f64;
+        println!(
+            "| {} | {} | {} | {} | {} | {} | {} | {} | {} | {} |",
+            files.name,
+            counts.most_rows,
+            counts.most_ends,
+            counts.swept,
+            counts.closed_up,
+            time(this),
+            time(other),
+            figure(other / this),
+            time(this / rows),
+            time(other / rows),
+        );
     }
 
     /// The microseconds of the run over the whole window, of this build and of the other, which have to answer the same.

@@ -23,10 +23,15 @@ pub fn cases(folder: &str, words: &[String]) -> Vec<Files> {
     let mut paths: Vec<PathBuf> = entries.map(|entry| entry.expect("a file").path()).collect();
     paths.retain(|path| path.extension().map_or(false, |end| end == "case"));
     paths.sort();
-    let all: Vec<Files> = paths.iter().map(|path| read(path)).collect();
-    let meant = |files: &Files| words.iter().any(|word| files.name.starts_with(word));
+    let all = paths.iter().map(|path| read(path)).collect();
+    meant(all, words)
+}
+
+/// Those whose names begin with one of the words; without a word, all.
+pub fn meant(all: Vec<Files>, words: &[String]) -> Vec<Files> {
+    let begins = |files: &Files| words.iter().any(|word| files.name.starts_with(word));
     all.into_iter()
-        .filter(|files| words.is_empty() || meant(files))
+        .filter(|files| words.is_empty() || begins(files))
         .collect()
 }
 

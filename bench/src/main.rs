@@ -14,8 +14,9 @@ mod library;
 mod measured;
 mod series;
 mod tables;
+mod waves;
 
-use cases::cases;
+use cases::{cases, meant};
 
 fn main() {
     let words: Vec<String> = std::env::args().skip(1).collect();
@@ -38,8 +39,9 @@ fn second(folder: &str, words: &[String]) {
     tables::print_series();
 }
 
-/// This build beside another one.
+/// This build beside another one, on the cases and on those with waves of blocks.
 fn beside(libraries: &[String], folder: &str, words: &[String]) {
     let mut both = beside::Both::open(&libraries[0], &libraries[1]);
     both.print_cases(&cases(folder, words));
+    both.print_waves(&meant(waves::waves(), words));
 }

@@ -24,7 +24,7 @@ pub fn case(shape: Shape) -> Vec<u8> {
 }
 
 /// So many delays, two minutes apart, of nearly the same weight.
-fn delays(count: u8) -> Vec<(u8, u8)> {
+pub fn delays(count: u8) -> Vec<(u8, u8)> {
     let share = 100 / count;
     let weight = |delay: u8| match delay {
         0 => 100 - share * (count - 1),
