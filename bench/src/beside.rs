@@ -41,12 +41,13 @@ impl Both {
         println!();
     }
 
-    /// The times of both builds on cases in which many blocks end in one minute, with the rows that move when these go, and the times for each of the most rows.
+    /// The times of both builds on cases in which many blocks end in one minute, also for each of the most rows, and how many rows move when blocks go: in
+    /// one sweep a minute, and if the list is closed up once for each block.
     pub fn print_waves(&mut self, cases: &[Files]) {
         if cases.is_empty() {
             return;
         }
-        println!("| case | most rows | most blocks that end in one minute | rows moved: one sweep a minute | closed up for each block | this build | other build | other / this | this build, a row | other build, a row |");
+        println!("| case | most rows | most ends in a minute | rows moved, swept | closed up for each block | this build | other build | other / this | this, a row | other, a row |");
         println!("|---|---|---|---|---|---|---|---|---|---|");
         cases.iter().for_each(|files| self.print_wave(files));
         println!();
