@@ -29,6 +29,7 @@ type Run = unsafe extern "C" fn(
 
 /// A library, the memory that its run is lent, and what its last call answered.
 pub struct Library {
+    object: *mut c_void,
     run: Run,
     pub rows: Vec<u8>,
     pub weights: Vec<u8>,
@@ -44,12 +45,18 @@ impl Library {
         assert!(!object.is_null(), "{}", said());
         let run = named(object, "lampreysong_run");
         Library {
+            object,
             // SAFETY: it is the function that include/lampreysong.h declares.
             run: unsafe { std::mem::transmute::<*mut c_void, Run>(run) },
             rows: vec![0; ROWS],
             weights: vec![0; WEIGHTS],
             answer: Answer::default(),
         }
+    }
+
+    /// The function of this name; it must be there.
+    pub fn function(&self, name: &str) -> *mut c_void {
+        named(self.object, name)
     }
 
     /// The run to a stop minute.

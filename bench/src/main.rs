@@ -1,13 +1,15 @@
 //! The program of the benchmark, which times the exported run over the whole window. What it prints is Markdown.
 //!
 //! - `bench second FOLDER [CASE..]`: beside the second program's joint run and its enumeration of all choices;
-//! - `bench beside THIS OTHER FOLDER [CASE..]`: two builds of the library in turns, each as a shared object.
+//! - `bench beside THIS OTHER FOLDER [CASE..]`: two builds of the library in turns, each as a shared object;
+//! - `bench copies THIS NOTING FOLDER [CASE..]`: and what it copies, which the library NOTING notes (bench/copies.c).
 //!
 //! FOLDER has the cases; with words, only those are taken whose names begin with one of them. All is timed in one process.
 
 mod beside;
 mod cases;
 mod clock;
+mod copies;
 mod counts;
 mod exported;
 mod library;
@@ -23,9 +25,11 @@ fn main() {
     match words.first().map(String::as_str) {
         Some("second") if words.len() > 1 => second(&words[1], &words[2..]),
         Some("beside") if words.len() > 3 => beside(&words[1..3], &words[3], &words[4..]),
+        Some("copies") if words.len() > 3 => copies(&words[1..3], &words[3], &words[4..]),
         _ => {
             eprintln!("use: bench second FOLDER [CASE..]");
             eprintln!("     bench beside THIS OTHER FOLDER [CASE..]");
+            eprintln!("     bench copies THIS NOTING FOLDER [CASE..]");
             std::process::exit(2);
         }
     }
@@ -44,4 +48,16 @@ fn beside(libraries: &[String], folder: &str, words: &[String]) {
     let mut both = beside::Both::open(&libraries[0], &libraries[1]);
     both.print_cases(&cases(folder, words));
     both.print_waves(&meant(waves::waves(), words));
+}
+
+/// What a run copies, on the cases and on those with waves of blocks.
+fn copies(libraries: &[String], folder: &str, words: &[String]) {
+    let mut copies = copies::Copies::open(&libraries[0], &libraries[1]);
+    copies.print_head();
+    for files in cases(folder, words) {
+        copies.print(&files);
+    }
+    for files in meant(waves::waves(), words) {
+        copies.print(&files);
+    }
 }
