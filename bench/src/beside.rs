@@ -47,7 +47,7 @@ impl Both {
         if cases.is_empty() {
             return;
         }
-        println!("| case | most rows | most ends in a minute | rows moved, swept | closed up for each block | this build | other build | other / this | this, a row | other, a row |");
+        println!("| case | most rows | most blocks that end in a minute | rows moved, swept | closed up for each block | this build | other build | other / this | this, a row | other, a row |");
         println!("|---|---|---|---|---|---|---|---|---|---|");
         cases.iter().for_each(|files| self.print_wave(files));
         println!();
