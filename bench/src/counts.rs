@@ -1,7 +1,8 @@
 //! What is counted of a case's joint run, by the second program's lists.
 
-use second::joint::{Entry, JointRun, Kind};
-use second::plan::{still_blocks, Plan};
+use inputs::sweeps::{sweep, Sweep};
+use second::joint::JointRun;
+use second::plan::Plan;
 
 /// Counts over all minutes of a run.
 #[derive(Default)]
@@ -22,7 +23,9 @@ pub fn counts(plan: &Plan) -> Counts {
     let mut joint = JointRun::start(plan).expect("room for the first list");
     let mut counts = Counts::default();
     for t in 0..=plan.head.last_minute {
-        counts.start_of_minute(&joint.list, t);
+        if let Some(sweep) = sweep(&joint.list, t) {
+            counts.add(&sweep);
+        }
         joint.visit(plan, t).expect("room");
         counts.most_rows = counts.most_rows.max(joint.list.len());
         counts.rows += joint.list.len();
@@ -31,13 +34,12 @@ pub fn counts(plan: &Plan) -> Counts {
 }
 
 impl Counts {
-    /// The blocks that go from this list at the start of minute t.
-    fn start_of_minute(&mut self, list: &[Entry], t: u32) {
-        let goes = |entry: &Entry| entry.kind == Kind::Blocks && !still_blocks(entry.minute, t);
-        let going: Vec<usize> = (0..list.len()).filter(|row| goes(&list[*row])).collect();
-        let after = |row: &usize| list.len() - 1 - row;
-        self.most_ends = self.most_ends.max(going.len());
-        self.swept += going.first().map_or(0, |row| after(row) + 1 - going.len());
-        self.closed_up += going.iter().map(after).sum::<usize>();
+    /// Adds the blocks that go at the start of a minute.
+    fn add(&mut self, sweep: &Sweep) {
+        let goes = sweep.goes.iter().rev().enumerate();
+        let behind = goes.filter_map(|(behind, goes)| goes.then_some(behind));
+        self.most_ends = self.most_ends.max(sweep.gone());
+        self.swept += sweep.moved();
+        self.closed_up += behind.sum::<usize>();
     }
 }
