@@ -1,4 +1,4 @@
-//! Drawn-up cases in which hundreds of blocks end in one minute.
+//! Drawn-up cases in which more than half of the rows are blocks that end in one minute.
 //!
 //! At each of the first stations of a line a train stands, since a minute that its delay says, when one more train comes along the line. There it is cut
 //! into a piece for each of their delays. All pieces go on together, and at every element that they leave each has its block: a wave that ends in one minute.
