@@ -1,5 +1,6 @@
 pub mod Images
 pub mod Digits
+pub mod Numbers
 pub mod Told
 pub mod Shown
 pub mod Outcomes

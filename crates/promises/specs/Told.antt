@@ -1,43 +1,34 @@
 -- Each answer belongs to one result: what a call answers as numbers tells whether it was refused, for what, and otherwise its value.
 -- A refusal's number is never 0, and 65,535 is no minute of a window. The field viewer's answer tells whether a field was given, and which. Assumes nothing.
 use mathlib.Core.Path.{_≡_, refl, sym, ap, _∙_, subst}
-use mathlib.Core.List.{List, []}
+use mathlib.Core.List.{List}
 use mathlib.Core.Option.{Option, none, some}
-use Prim.Native.Nat.{ℕ, _≤_, _<_}
+use Prim.Native.Nat.{ℕ, _<_}
 use native.Mathlib.Omega.{arith}
-use lib.ListN.{length}
 use lib.Ieee.{Float}
 use Rattle.rules.specs.Refusals.{Refusal, Result}
 use Rattle.rules.specs.Refusals.Result.{refused, answer}
 use Rattle.rules.specs.Files.{Case, files}
 use Rattle.rules.specs.Single.{arrival}
-use Rattle.rules.specs.Figures.{Punctuality, Shares, Figures, figures}
+use Rattle.rules.specs.Figures.{Punctuality, Shares, Figures}
 use Rattle.rules.specs.Figures.Punctuality.{never, always, share}
 use Rattle.rules.specs.Viewer.{View, viewed}
 use Rattle.rules.specs.Viewer.View.{field, ended, overruns}
-use Rattle.rules.specs.Calls.{Run, Memory, Lent, textBytes, textOf, call, singleRun, stoppedRun, wholeRun, trainRun, runCall, listingCall, figuresCall}
+use Rattle.rules.specs.Calls.{Memory, singleRun, runCall, listingCall, figuresCall}
 use Rattle.rules.specs.Answers.{Answer, numberAnswer, minuteNumber, minuteAnswer, punctualityNumber, punctualityValue, FiguresAnswer, figuresAnswer, ViewAnswer, viewAnswer}
-use Rattle.rules.specs.Promised.{refusalOf, lateStop, missingTrain}
 use Rattle.theory_sound.specs.Accepted.{accepted-sound}
-use Rattle.theory_sound.specs.Places.{files-told}
-use Rattle.theory_sound.specs.Verdicts.{refused-answer, refused-refused}
-use Rattle.theory_calls.specs.Decided.{Decided, stopped-decided, whole-decided, train-decided, SingleDecided, single-decided}
-use Rattle.theory_calls.specs.Decided.{Decided as runs, SingleDecided as singles}
+use Rattle.theory_calls.specs.Decided.{SingleDecided, single-decided}
+use Rattle.theory_calls.specs.Decided.{SingleDecided as singles}
 use Rattle.theory_calls.specs.Plan.{arrival-window}
-use Rattle.theory_calls.specs.Promises.{Comes, call-comes, Comes as comes}
 use Rattle.laying.specs.declared.Answer.{Answer as Struct}
 use Rattle.telling.specs.declared.TrainFigures.{TrainFigures}
 use Rattle.desk.specs.declared.Viewed.{Viewed}
 use Rattle.laying.specs.Answers.{answerOf}
 use Rattle.telling.specs.Answers.{figuresOf}
 use Rattle.desk.specs.Answers.{singleAnswer, viewedOf}
+use Rattle.promises.specs.Numbers.{Numbered, run-numbered, listing-numbered, figures-numbered, single-numbered}
 
 -- ---- the definitions
-
--- a refusal has a number
-abbrev pub Numbered : {A : Type 0} → Result A → Type 0
-Numbered (refused r) = 1 ≤ r .number
-Numbered (answer a) = Unit
 
 -- a minute, if there is one, is below 65,535
 abbrev pub Early : Option ℕ → Type 0
@@ -60,8 +51,8 @@ refusal-same r s n f p =
 pub number-one : (a b : Result ℕ) → Numbered a → Numbered b → numberAnswer a ≡ numberAnswer b → a ≡ b
 number-one (refused r) (refused s) h k e =
     ap (λ (z : Refusal). refused z) (refusal-same r s (ap (λ (z : Answer). z .refusal) e) (ap (λ (z : Answer). z .file) e) (ap (λ (z : Answer). z .place) e))
-number-one (refused r) (answer w) h k e = absurd (omega (arith, ap (λ (z : Answer). z .refusal) e))
-number-one (answer v) (refused s) h k e = absurd (omega (arith, ap (λ (z : Answer). z .refusal) e))
+number-one (refused r) (answer w) h k e = absurd (omega (arith, h .0, ap (λ (z : Answer). z .refusal) e))
+number-one (answer v) (refused s) h k e = absurd (omega (arith, k .0, ap (λ (z : Answer). z .refusal) e))
 number-one (answer v) (answer w) h k e = ap (λ (z : ℕ). answer z) (ap (λ (z : Answer). z .value) e)
 
 minute-one : (a b : Option ℕ) → Early a → Early b → minuteNumber a ≡ minuteNumber b → a ≡ b
@@ -74,8 +65,8 @@ minute-one (some t) (some u) h k e = ap (λ (z : ℕ). some z) e
 pub single-one : (a b : Result (Option ℕ)) → Numbered a → Numbered b → EarlyAnswer a → EarlyAnswer b → minuteAnswer a ≡ minuteAnswer b → a ≡ b
 single-one (refused r) (refused s) h k f g e =
     ap (λ (z : Refusal). refused z) (refusal-same r s (ap (λ (z : Answer). z .refusal) e) (ap (λ (z : Answer). z .file) e) (ap (λ (z : Answer). z .place) e))
-single-one (refused r) (answer w) h k f g e = absurd (omega (arith, ap (λ (z : Answer). z .refusal) e))
-single-one (answer v) (refused s) h k f g e = absurd (omega (arith, ap (λ (z : Answer). z .refusal) e))
+single-one (refused r) (answer w) h k f g e = absurd (omega (arith, h .0, ap (λ (z : Answer). z .refusal) e))
+single-one (answer v) (refused s) h k f g e = absurd (omega (arith, k .0, ap (λ (z : Answer). z .refusal) e))
 single-one (answer v) (answer w) h k f g e = ap (λ (z : Option ℕ). answer z) (minute-one v w f g (ap (λ (z : Answer). z .value) e))
 
 -- each case of punctuality
@@ -115,8 +106,8 @@ pub figures-one : (a b : Result Figures) → Numbered a → Numbered b → figur
 figures-one (refused r) (refused s) h k e =
     ap (λ (z : Refusal). refused z)
     (refusal-same r s (ap (λ (z : FiguresAnswer). z .refusal) e) (ap (λ (z : FiguresAnswer). z .file) e) (ap (λ (z : FiguresAnswer). z .place) e))
-figures-one (refused r) (answer g) h k e = absurd (omega (arith, ap (λ (z : FiguresAnswer). z .refusal) e))
-figures-one (answer f) (refused s) h k e = absurd (omega (arith, ap (λ (z : FiguresAnswer). z .refusal) e))
+figures-one (refused r) (answer g) h k e = absurd (omega (arith, h .0, ap (λ (z : FiguresAnswer). z .refusal) e))
+figures-one (answer f) (refused s) h k e = absurd (omega (arith, k .0, ap (λ (z : FiguresAnswer). z .refusal) e))
 figures-one (answer f) (answer g) h k e =
     let case : some (f .punctuality) ≡ some (g .punctuality) =
     punctuality-one (some (f .punctuality)) (some (g .punctuality)) (ap (λ (z : FiguresAnswer). z .punctuality) e) (ap (λ (z : FiguresAnswer). z .share) e) in
@@ -143,70 +134,20 @@ view-one i j overruns (field b d f) h = absurd (omega (arith, ap (λ (z : ViewAn
 view-one i j overruns ended h = absurd (omega (arith, ap (λ (z : ViewAnswer). z .refusal) h))
 view-one i j overruns overruns h = refl
 
--- ---- every call's result has one answer
+-- ---- the minute of a single run
 
-decided-numbered : (cs bk : List ℕ) (arguments stop : Case → ℕ) (r : Result Run) → Decided cs bk arguments stop r → (f : Refusal) → r ≡ refused f → 1 ≤ f .number
-decided-numbered cs bk arguments stop r d f e = go d
+pub single-early : (cs bk x : List ℕ) (k : ℕ) → EarlyAnswer (singleRun cs bk x k)
+single-early cs bk x k = go (single-decided cs bk x k)
   where
-    number-is : (g : Refusal) → r ≡ refused g → g .number ≡ f .number
-    number-is g q = ap (λ (z : Refusal). z .number) (refused-refused g f (sym q ∙ e))
+    early : (C : Case) → files cs bk ≡ answer C → (o : Option ℕ) → arrival C x k ≡ o → Early o
+    early C a none e = tt
+    early C a (some t) e = omega (arith, arrival-window cs bk C a x k t e, accepted-sound cs bk C a .in-window)
 
-    go : Decided cs bk arguments stop r → 1 ≤ f .number
-    go (runs.by-files g a q) = omega (arith, number-is g q, files-told cs bk g a .some-number)
-    go (runs.by-arguments C a b q) = omega (arith, number-is (refusalOf (arguments C)) q)
-    go (runs.by-room C a b p q) = omega (arith, number-is (refusalOf 12) q)
-    go (runs.by-run C a b p q) = absurd (refused-answer f _ (sym e ∙ q))
-
-call-numbered : {A : Type 0} (asked : ℕ) (value : Run → A) (text : Run → List ℕ) (m : Memory) (r : Result Run)
-    → ((f : Refusal) → r ≡ refused f → 1 ≤ f .number) → Numbered (call asked value text m r .result)
-call-numbered {A} asked value text m r h = go (call-comes asked value text m r)
-  where
-    go : {l : Lent A} → Comes asked value text m r l → Numbered (l .result)
-    go (comes.short-of s q) = subst (λ (z : Lent A). Numbered (z .result)) (sym q) (omega arith)
-    go (comes.refused-for f s e q) = subst (λ (z : Lent A). Numbered (z .result)) (sym q) (h f e)
-    go (comes.answered-by u s e q) = subst (λ (z : Lent A). Numbered (z .result)) (sym q) tt
-
-module _ (cs bk : List ℕ) where
-  pub run-numbered : (t : ℕ) (m : Memory) → Numbered (runCall cs bk t m .result)
-  unfolding runCall
-  run-numbered t m =
-      call-numbered 0 (λ u. length (u .state .list)) (λ u. []) m (stoppedRun cs bk t)
-      (decided-numbered cs bk (lateStop t) (λ C. t) (stoppedRun cs bk t) (stopped-decided cs bk t))
-
-  pub listing-numbered : (m : Memory) → Numbered (listingCall cs bk m .result)
-  unfolding listingCall
-  listing-numbered m =
-      call-numbered textBytes (λ u. length (textOf u)) textOf m (wholeRun cs bk)
-      (decided-numbered cs bk (λ C. 0) (λ C. C .head .lastMinute) (wholeRun cs bk) (whole-decided cs bk))
-
-  pub figures-numbered : (k L : ℕ) (m : Memory) → Numbered (figuresCall cs bk k L m .result)
-  unfolding figuresCall
-  figures-numbered k L m =
-      call-numbered 0 (λ u. figures (u .of) (u .state .arrived) k L) (λ u. []) m (trainRun cs bk k)
-      (decided-numbered cs bk (missingTrain k) (λ C. C .head .lastMinute) (trainRun cs bk k) (train-decided cs bk k))
-
-  module _ (x : List ℕ) (k : ℕ) where
-    pub single-numbered : Numbered (singleRun cs bk x k)
-    single-numbered = go (single-decided cs bk x k)
-      where
-        go : SingleDecided cs bk x k (singleRun cs bk x k) → Numbered (singleRun cs bk x k)
-        go (singles.by-files f a q) = subst Numbered (sym q) (files-told cs bk f a .some-number)
-        go (singles.by-choice C a c q) = subst Numbered (sym q) (omega arith)
-        go (singles.by-train C a c l q) = subst Numbered (sym q) (omega arith)
-        go (singles.by-run C a c l q) = subst Numbered (sym q) tt
-
-    pub single-early : EarlyAnswer (singleRun cs bk x k)
-    single-early = go (single-decided cs bk x k)
-      where
-        early : (C : Case) → files cs bk ≡ answer C → (o : Option ℕ) → arrival C x k ≡ o → Early o
-        early C a none e = tt
-        early C a (some t) e = omega (arith, arrival-window cs bk C a x k t e, accepted-sound cs bk C a .in-window)
-
-        go : SingleDecided cs bk x k (singleRun cs bk x k) → EarlyAnswer (singleRun cs bk x k)
-        go (singles.by-files f a q) = subst EarlyAnswer (sym q) tt
-        go (singles.by-choice C a c q) = subst EarlyAnswer (sym q) tt
-        go (singles.by-train C a c l q) = subst EarlyAnswer (sym q) tt
-        go (singles.by-run C a c l q) = subst EarlyAnswer (sym q) (early C a (arrival C x k) refl)
+    go : SingleDecided cs bk x k (singleRun cs bk x k) → EarlyAnswer (singleRun cs bk x k)
+    go (singles.by-files f a q) = subst EarlyAnswer (sym q) tt
+    go (singles.by-choice C a c q) = subst EarlyAnswer (sym q) tt
+    go (singles.by-train C a c l q) = subst EarlyAnswer (sym q) tt
+    go (singles.by-run C a c l q) = subst EarlyAnswer (sym q) (early C a (arrival C x k) refl)
 
 -- ---- one result for one struct
 
