@@ -7,8 +7,8 @@
 #include "refusal.h"
 #include "said.h"
 
-#define VERSION "1.1"
-#define RULES "document 01, change request 4 of document 02"
+#define VERSION "1.2"
+#define RULES "document 01, change requests 4 and 10 of document 02"
 
 /* The toolchain that proved the engine; who builds says it. */
 #ifndef TOOLCHAIN
@@ -24,7 +24,9 @@ static int version(void)
 static int refusals(void)
 {
     for (unsigned number = LAMPREYSONG_OVERRUN; number <= LAMPREYSONG_STOP_TOO_LATE; number++)
-        printf("%2u  %s\n", number, refusal_meaning(number));
+        if (is_refusal(number))
+            printf("%2u  %s\n", number, refusal_meaning(number));
+    puts("\n13 is retired: no call gives it, and it is not used again.");
     return end_output(stdout, NULL);
 }
 

@@ -21,7 +21,6 @@ static const char *const meanings[] = {
     [LAMPREYSONG_WRONG_TABLE] = "delay table breaks a rule",
     [LAMPREYSONG_NO_TABLE] = "a train's type has no table",
     [LAMPREYSONG_NO_ROOM] = "list of entries passes the room",
-    [LAMPREYSONG_TOO_HEAVY] = "weight of an entry passes 10^14",
     [LAMPREYSONG_TOO_SHORT] = "lent memory too short",
     [LAMPREYSONG_WRONG_CHOICE] = "choice with a wrong count or an index past the table",
     [LAMPREYSONG_NO_TRAIN] = "no such train",
@@ -45,9 +44,14 @@ static void (*const words_of[])(const struct fault *fault, struct words *words) 
 
 #define COUNT(list) (sizeof(list) / sizeof *(list))
 
+int is_refusal(unsigned number)
+{
+    return number < COUNT(meanings) && meanings[number] != NULL;
+}
+
 const char *refusal_meaning(unsigned number)
 {
-    return number > 0 && number < COUNT(meanings) ? meanings[number] : "a number that has no meaning";
+    return is_refusal(number) ? meanings[number] : "a number that has no meaning";
 }
 
 static struct fault fault_at(const struct study *study, struct refusal refusal)

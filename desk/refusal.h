@@ -18,7 +18,10 @@ struct asked {
     size_t count; /* of the choice's indices */
 };
 
-/* A refusal's meaning in 01's words, one line; for a number that 01 does not have, that it has none. */
+/* Whether some refusal has the number. */
+int is_refusal(unsigned number);
+
+/* A refusal's meaning in 01's words, one line; for a number that no refusal has, that it has none. */
 const char *refusal_meaning(unsigned number);
 
 /* Says a refusal: `refused`, number, file and place as 01 has them; then what it means, the field, its number and its bytes, the line of a text, and what

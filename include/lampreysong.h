@@ -31,7 +31,7 @@ enum {
     LAMPREYSONG_WRONG_TABLE = 10,   /* a delay table breaks a rule */
     LAMPREYSONG_NO_TABLE = 11,      /* a train's type has no table */
     LAMPREYSONG_NO_ROOM = 12,       /* the list of entries passes the room */
-    LAMPREYSONG_TOO_HEAVY = 13,     /* the weight of an entry passes 10^14: never given */
+    /* 13 is reserved: it is retired, no call gives it, and it is never used again */
     LAMPREYSONG_TOO_SHORT = 14,     /* lent memory too short: nothing was written */
     LAMPREYSONG_WRONG_CHOICE = 15,  /* a choice with a wrong count or an index past the table */
     LAMPREYSONG_NO_TRAIN = 16,      /* no such train */

@@ -1,4 +1,4 @@
-/* The header as C has it, and as C++ has it: sizes and offsets of the answers, and each exported function called. Prints 'N passed, M failed'. */
+/* The header as C has it, and as C++ has it: sizes and offsets of the answers, the refusals' numbers, and each exported function called. Prints 'N passed, M failed'. */
 #include <stddef.h>
 #include <stdio.h>
 #include <string.h>
@@ -33,6 +33,17 @@ static void layouts(void)
     expect(offsetof(viewed, refusal) == 0 && offsetof(viewed, given) == 2 && offsetof(viewed, tag) == 4, "what is viewed: its tag");
     expect(offsetof(viewed, size) == 6 && offsetof(viewed, next) == 8, "what is viewed: its length and the place then");
     expect(sizeof rows == 16384 && sizeof weights == 40320 && sizeof text == 32768, "the required lengths");
+}
+
+/* As 01 has them. 13 is retired, and no refusal has it. */
+static void refusals(void)
+{
+    static const int numbers[] = {
+        LAMPREYSONG_OVERRUN, LAMPREYSONG_UNKNOWN_TAG, LAMPREYSONG_MISPLACED, LAMPREYSONG_WRONG_LENGTH, LAMPREYSONG_WRONG_COUNT, LAMPREYSONG_OUT_OF_RANGE,
+        LAMPREYSONG_WRONG_ENDS, LAMPREYSONG_WRONG_PATH, LAMPREYSONG_WRONG_TIMES, LAMPREYSONG_WRONG_TABLE, LAMPREYSONG_NO_TABLE, LAMPREYSONG_NO_ROOM,
+        LAMPREYSONG_TOO_SHORT, LAMPREYSONG_WRONG_CHOICE, LAMPREYSONG_NO_TRAIN, LAMPREYSONG_STOP_TOO_LATE};
+    for (int i = 0; i < 16; i++)
+        expect(numbers[i] == (i < 12 ? i + 1 : i + 2), "a refusal has 01's number");
 }
 
 static void calls(void)
@@ -80,6 +91,7 @@ static void fields(void)
 int main(void)
 {
     layouts();
+    refusals();
     calls();
     fields();
     return tally();

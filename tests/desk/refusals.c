@@ -478,13 +478,16 @@ static void try_pairs(const char *name)
 
 static void try_meanings(void)
 {
+    static const unsigned without[] = {0, 13, 18};
     for (unsigned number = 1; number <= LAMPREYSONG_STOP_TOO_LATE; number++) {
-        expect(refusal_meaning(number)[0] != '\0', "a number has a meaning");
+        if (number == 13)
+            continue;
+        expect(is_refusal(number) && refusal_meaning(number)[0] != '\0', "a number has a meaning");
         for (unsigned other = 1; other < number; other++)
             expect(strcmp(refusal_meaning(number), refusal_meaning(other)) != 0, "two numbers have two meanings");
     }
-    expect(strcmp(refusal_meaning(0), "a number that has no meaning") == 0, "0 has no meaning");
-    expect(strcmp(refusal_meaning(18), "a number that has no meaning") == 0, "18 has no meaning");
+    for (size_t i = 0; i < sizeof without / sizeof *without; i++)
+        expect(!is_refusal(without[i]) && strcmp(refusal_meaning(without[i]), "a number that has no meaning") == 0, "0, 13 and 18 have no meaning");
 }
 
 static void try_shares(void)

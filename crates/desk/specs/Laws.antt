@@ -22,7 +22,7 @@ use Rattle.laying.specs.Steps.{Fits, Start, runOf}
 
 told-fits : {n : ℕ} → n ≤ 17 → (r : Refusal) → Told n r → Fits (r .number) (r .file) (r .place)
 told-fits h r t = record {
-  some = t .some-number;
+  some = t .given .0;
   number = omega (arith, t .few-numbers);
   file = omega (arith, t .two-files);
   place = omega (arith, t .in-reach);

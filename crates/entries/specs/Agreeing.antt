@@ -66,7 +66,7 @@ every-get P (a ∷ l) h (suc j) k = every-get P l (h .1) j (omega arith)
 
 module _ (C : Case) (sound : Sound C) (t : ℕ) (early : t ≤ C .head .lastMinute) where
   pub kind-pass : (e : Place) (k : ℕ) (s : State Entry) → Kind C s → Kind C (pass C t e k s)
-  kind-pass e k s h = (pass-lawful C sound t e k s (h .0), pass-bounded C sound t early e k s (h .1))
+  kind-pass e k s h = (pass-lawful C t e k s (h .0), pass-bounded C sound t early e k s (h .1))
 
   -- ---- a pass
 
@@ -106,7 +106,7 @@ module _ (C : Case) (sound : Sound C) (t : ℕ) (early : t ≤ C .head .lastMinu
         weighs = weighs-pass C sound t e k v s few minute w
 
         met : pass C t (placeOf e) k s .met ≡ cond (ltb (C .head .room) (length l′)) 12 0
-        met = pass-met C sound t (placeOf e) k s (h .0) z
+        met = pass-met C t (placeOf e) k s z
 
         go : (b : Bool) → ltb (C .head .room) (length l′) ≡ b → Agrees C (pass C t (placeOf e) k s) (guard (C .head .room) (map rowOf l′) v′)
         go true r =
@@ -120,7 +120,7 @@ module _ (C : Case) (sound : Sound C) (t : ℕ) (early : t ≤ C .head .lastMinu
 
     pub agrees-pass : (s : State Entry) (o : Outcome) → Kind C s → Agrees C s o → Agrees C (pass C t (placeOf e) k s) (passOf (tables C) t e k o)
     unfolding passOf
-    agrees-pass s refused h (over m) = over (subst (λ (n : ℕ). 0 < n) (sym (pass-refused C sound t (placeOf e) k s m)) m)
+    agrees-pass s refused h (over m) = over (subst (λ (n : ℕ). 0 < n) (sym (pass-refused C t (placeOf e) k s m)) m)
     agrees-pass s (stands r v) h (agree z w) = go (someAsks (tables C) t e k (map rowOf (s .list))) refl
       where
         go : (b : Bool) → someAsks (tables C) t e k (map rowOf (s .list)) ≡ b
@@ -128,7 +128,7 @@ module _ (C : Case) (sound : Sound C) (t : ℕ) (early : t ≤ C .head .lastMinu
         go true q = made s h z w q
         go false q =
             subst (λ (u : State Entry). Agrees C u (stands (map rowOf (s .list)) v))
-            (sym (pass-nobody C sound t (placeOf e) k s (h .0) (asked-none C sound t e k low (s .list) (good-every C (s .list) (h .0 .proper) (h .1)) q))) (agree z w)
+            (sym (pass-nobody C t (placeOf e) k s (h .0) (asked-none C sound t e k low (s .list) (good-every C (s .list) (h .0 .proper) (h .1)) q))) (agree z w)
 
   -- ---- an element
 
@@ -185,7 +185,7 @@ module _ (C : Case) (sound : Sound C) (t : ℕ) (early : t ≤ C .head .lastMinu
   unfolding minutePasses minuteOf
   pair-minute s o p =
       some-elements 65 (omega arith) (cleared (λ r. r .mark) t s) (clearedOf t o)
-      ((cleared-lawful C sound t s (p .0 .0), cleared-bounded C sound (λ r. r .mark) t s (p .0 .1)), cleared-agrees s o (p .0) (p .1))
+      ((cleared-lawful C t s (p .0 .0), cleared-bounded C sound (λ r. r .mark) t s (p .0 .1)), cleared-agrees s o (p .0) (p .1))
 
 -- ---- the minutes
 

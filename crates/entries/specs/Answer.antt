@@ -12,7 +12,7 @@ use Rattle.rules.specs.Files.{Case}
 use Rattle.rules.specs.Joint.{joint, weightAt}
 use Rattle.theory_sound.specs.Facts.{Sound}
 use Rattle.theory_weights.specs.Arrivals.{joint-seen, weightAt-most}
-use Rattle.theory_weights.specs.Room.{total-most}
+use Rattle.theory_weights.specs.Most.{total-most}
 use Rattle.theory_codes.specs.Tables.{tables}
 use Rattle.theory_passes.specs.Passes.{jointPasses}
 use Rattle.theory_passes.specs.Joint.{joint-passes}

@@ -19,11 +19,10 @@ use Rattle.theory_sound.specs.Facts.{Sound}
 use Rattle.theory_lists.specs.Each.{map-append}
 use Rattle.theory_lists.specs.Every.{Every}
 use Rattle.theory_lists.specs.Below.{every-below}
-use Rattle.theory_simulation.specs.Start.{first-proper}
 use Rattle.theory_codes.specs.Codes.{stateOf}
 use Rattle.theory_codes.specs.Tables.{tables}
 use Rattle.theory_passes.specs.Joint.{first-lawful}
-use Rattle.theory_weights.specs.Room.{checkList-room}
+use Rattle.theory_trace.specs.Room.{checkList-room}
 use Rattle.theory_passes.specs.Bounds.{ByteDelays, firstList-bounded}
 use Rattle.cut.specs.Packed.{packedIn}
 use Rattle.cut.specs.Sets.{image-delays, whole-delays, single-delays}
@@ -163,7 +162,7 @@ module _ (C : Case) (sound : Sound C) where
       subst (Agrees C start) (sym (ap₂ (λ (r : ℕ) (l : List Row). guard r l (replicate {A = ℕ} 5760 0)) (table-room C) first-rows)) (go (ltb (C .head .room) (length (firstList C))) refl)
     where
       met : checkList C (firstList C) ≡ cond (ltb (C .head .room) (length (firstList C))) 12 0
-      met = checkList-room C sound (firstList C) (first-proper C sound)
+      met = checkList-room C (firstList C)
 
       go : (b : Bool) → ltb (C .head .room) (length (firstList C)) ≡ b → Agrees C start (guard (C .head .room) (map rowOf (firstList C)) (replicate {A = ℕ} 5760 0))
       go true q =

@@ -1,4 +1,4 @@
-// The refusal numbers of the paper, each named once.
+// The refusal numbers of the paper, each named once. 13 is retired and not used again.
 pub const OVERRUN: usize = 1;
 
 pub const UNKNOWN_TAG: usize = 2;
@@ -22,8 +22,6 @@ pub const WRONG_TABLE: usize = 10;
 pub const NO_TABLE: usize = 11;
 
 pub const NO_ROOM: usize = 12;
-
-pub const TOO_HEAVY: usize = 13;
 
 pub const TOO_SHORT: usize = 14;
 

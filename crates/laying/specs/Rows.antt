@@ -14,7 +14,7 @@ use Rattle.rules.specs.Joint.{Entry, firstList, joint}
 use Rattle.theory_sound.specs.Facts.{Sound}
 use Rattle.theory_lists.specs.Every.{Every, every-more}
 use Rattle.theory_simulation.specs.Simulation.{joint-proper}
-use Rattle.theory_weights.specs.Room.{met-minutes, list-fits}
+use Rattle.theory_trace.specs.Room.{room-minutes, list-fits}
 use Rattle.theory_passes.specs.Joint.{joint-passes}
 use Rattle.theory_passes.specs.Bounds.{ByteDelays, Bounded, bounded-train, joint-bounded}
 use Rattle.theory_codes.specs.Codes.{stateOf}
@@ -71,7 +71,7 @@ module _ (C : Case) (sound : Sound C) where
     run-came : {w end r : ℕ} (rows list rest ws : List ℕ) → joints.Answer C m w rows ws → list ≡ rows ++ rest → length rows ≡ end → end ≤ 2050 → length ws ≡ 5760
         → (w ≡ end → r ≡ 1025) → ((w ≡ end → ⊥) → r ≡ w / 2) → Came C m r list ws
     run-came {w} {end} {r} rows list rest ws a e n few long full fits =
-        go (passes (C .head .room) (firstList C) || any (λ n. passes (C .head .room) (joint C n .list)) (below (suc m))) (met-minutes C sound m)
+        go (passes (C .head .room) (firstList C) || any (λ n. passes (C .head .room) (joint C n .list)) (below (suc m))) (room-minutes C m)
       where
         go : (b : Bool) → joint C m .met ≡ cond b 12 0 → Came C m r list ws
         go true q = over q (full (omega (arith, a .refusal (omega arith))))
@@ -79,7 +79,7 @@ module _ (C : Case) (sound : Sound C) where
             let less : w < length rows = a .less q in
             let count : w ≡ length (joint C m .list) * 2 = a .count q in
             let half : r ≡ w / 2 = fits (λ z. omega arith) in
-            stands q (omega arith) (omega (arith, list-fits C sound m q m (omega arith), sound .in-room))
+            stands q (omega arith) (omega (arith, list-fits C m q m (omega arith), sound .in-room))
             (record {
               words =
                   ap (λ (l : List ℕ). take (length (joint C m .list) * 2) l) e

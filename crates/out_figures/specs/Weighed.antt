@@ -10,7 +10,7 @@ use Rattle.rules.specs.Figures.{latenessWeight}
 use Rattle.theory_sound.specs.Facts.{Sound}
 use Rattle.theory_sound.specs.Trains.{plan-most}
 use Rattle.theory_weights.specs.Arrivals.{Seen, arrived-total}
-use Rattle.theory_weights.specs.Room.{total-most}
+use Rattle.theory_weights.specs.Most.{total-most}
 use Rattle.out_figures.specs.Sums.{Weighed}
 use Rattle.out_figures.specs.Answers.{Holds}
 use Rattle.out_figures.specs.Laws.{arrived-case}

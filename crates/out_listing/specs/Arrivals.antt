@@ -21,7 +21,7 @@ use Rattle.theory_simulation.specs.Orderly.{toGo}
 use Rattle.theory_lists.specs.Items.{servedList}
 use Rattle.theory_simulation.specs.Keeping.{run-keeps}
 use Rattle.theory_trace.specs.Longest.{serveEntry-grows}
-use Rattle.theory_weights.specs.Room.{list-fits}
+use Rattle.theory_trace.specs.Room.{list-fits}
 
 -- the mark has come in: it stands at its train's last station, or past it
 abbrev pub hasCome : Case → Mark → Bool
@@ -179,4 +179,4 @@ arrived-list C sound m =
 
 -- an answered run has logged at most 1,024 arrivals
 pub arrived-few : (C : Case) → Sound C → (m : ℕ) → joint C m .met ≡ 0 → length (joint C m .arrived) ≤ 1024
-arrived-few C sound m answered = omega (arith, arrived-list C sound m, list-fits C sound m answered m (omega arith), sound .in-room)
+arrived-few C sound m answered = omega (arith, arrived-list C sound m, list-fits C m answered m (omega arith), sound .in-room)

@@ -1,5 +1,5 @@
--- The numbers that refused calls answer. None is 0, which says that a call was answered, and none is 13, for any files, arguments and memory. What decides a call are
--- its memory, the files, its arguments and the room, and each has numbers of its own. Assumes nothing.
+-- The numbers that refused calls answer. None is 0, which says that a call was answered, and none is 13, which is retired, for any files, arguments and memory. What
+-- decides a call are its memory, the files, its arguments and the room, and each is refused with the number of a refusal. Assumes nothing.
 use mathlib.Core.Path.{_≡_, sym, ap, _∙_, subst}
 use mathlib.Core.Bool.{Bool, true, false, cond}
 use mathlib.Core.List.{List, []}
@@ -9,8 +9,9 @@ use native.Mathlib.Omega.{arith}
 use lib.ListN.{length}
 use lib.Dec.{leb, ltb}
 use Rattle.rules.specs.Refusals.{Refusal, Result}
+use Rattle.rules.specs.Refusals.Fault.{noRoom, tooShort, wrongChoice, noTrain, stopTooLate}
 use Rattle.rules.specs.Refusals.Result.{refused, answer}
-use Rattle.rules.specs.Files.{Case, files}
+use Rattle.rules.specs.Files.{Case}
 use Rattle.rules.specs.Figures.{Figures, figures}
 use Rattle.rules.specs.Viewer.{View, viewed}
 use Rattle.rules.specs.Viewer.View.{field, ended, overruns}
@@ -18,7 +19,7 @@ use Rattle.rules.specs.Calls.{Run, Memory, Lent, textBytes, textOf, call, singl
 use Rattle.rules.specs.Answers.{viewAnswer}
 use Rattle.rules.specs.Promised.{refusalOf, lateStop, missingTrain}
 use Rattle.theory_sound.specs.Places.{files-told}
-use Rattle.theory_sound.specs.Verdicts.{refused-answer, refused-refused}
+use Rattle.theory_sound.specs.Verdicts.{refused-answer, refused-refused, Given, number-given}
 use Rattle.theory_calls.specs.Decided.{Decided, stopped-decided, whole-decided, train-decided, SingleDecided, single-decided}
 use Rattle.theory_calls.specs.Decided.{Decided as runs, SingleDecided as singles}
 use Rattle.theory_calls.specs.Promises.{Comes, call-comes, Comes as comes}
@@ -31,19 +32,12 @@ use Rattle.desk.specs.Answers.{singleAnswer, lentTwo, lentThree, SingleGives, R
 
 -- ---- the definitions
 
--- a number that a refusal can have
-abbrev pub Given : ℕ → Type 0
-Given n = (1 ≤ n) × (n ≡ 13 → ⊥)
-
--- the result is no refusal, or one with such a number
+-- the result is no refusal, or one with a number that a refusal can have
 abbrev pub Numbered : {A : Type 0} → Result A → Type 0
 Numbered (refused r) = Given (r .number)
 Numbered (answer a) = Unit
 
 -- ---- what decides a run
-
-files-given : (cs bk : List ℕ) (f : Refusal) → files cs bk ≡ refused f → Given (f .number)
-files-given cs bk f e = let t = files-told cs bk f e in (t .some-number, λ q. omega (arith, t .few-numbers))
 
 argument-given : (n : ℕ) → Given n → (b : Bool) → 1 ≤ cond b n 0 → Given (cond b n 0)
 argument-given n g true h = g
@@ -57,9 +51,9 @@ decided-given cs bk arguments stop given r d f e = go d
     number-is g q h = subst (λ (z : Refusal). Given (z .number)) (refused-refused g f (sym q ∙ e)) h
 
     go : Decided cs bk arguments stop r → Given (f .number)
-    go (runs.by-files g a q) = number-is g q (files-given cs bk g a)
+    go (runs.by-files g a q) = number-is g q (files-told cs bk g a .given)
     go (runs.by-arguments C a b q) = number-is (refusalOf (arguments C)) q (given C b)
-    go (runs.by-room C a b p q) = number-is (refusalOf 12) q (omega arith, λ z. omega arith)
+    go (runs.by-room C a b p q) = number-is (refusalOf 12) q (number-given noRoom)
     go (runs.by-run C a b p q) = absurd (refused-answer f _ (sym e ∙ q))
 
 -- ---- the calls
@@ -69,7 +63,7 @@ call-numbered : {A : Type 0} (asked : ℕ) (value : Run → A) (text : Run → L
 call-numbered {A} asked value text m r h = go (call-comes asked value text m r)
   where
     go : {l : Lent A} → Comes asked value text m r l → Numbered (l .result)
-    go (comes.short-of s q) = subst (λ (z : Lent A). Numbered (z .result)) (sym q) (omega arith, λ e. omega arith)
+    go (comes.short-of s q) = subst (λ (z : Lent A). Numbered (z .result)) (sym q) (number-given tooShort)
     go (comes.refused-for f s e q) = subst (λ (z : Lent A). Numbered (z .result)) (sym q) (h f e)
     go (comes.answered-by u s e q) = subst (λ (z : Lent A). Numbered (z .result)) (sym q) tt
 
@@ -78,7 +72,7 @@ module _ (cs bk : List ℕ) where
   unfolding runCall
   run-numbered t m =
       call-numbered 0 (λ u. length (u .state .list)) (λ u. []) m (stoppedRun cs bk t)
-      (decided-given cs bk (lateStop t) (λ C. t) (λ C. argument-given 17 (omega arith, λ e. omega arith) (ltb (C .head .lastMinute) t)) (stoppedRun cs bk t)
+      (decided-given cs bk (lateStop t) (λ C. t) (λ C. argument-given 17 (number-given stopTooLate) (ltb (C .head .lastMinute) t)) (stoppedRun cs bk t)
       (stopped-decided cs bk t))
 
   pub listing-numbered : (m : Memory) → Numbered (listingCall cs bk m .result)
@@ -91,16 +85,16 @@ module _ (cs bk : List ℕ) where
   unfolding figuresCall
   figures-numbered k L m =
       call-numbered 0 (λ u. figures (u .of) (u .state .arrived) k L) (λ u. []) m (trainRun cs bk k)
-      (decided-given cs bk (missingTrain k) (λ C. C .head .lastMinute) (λ C. argument-given 16 (omega arith, λ e. omega arith) (leb (length (C .trains)) k)) (trainRun cs bk k)
+      (decided-given cs bk (missingTrain k) (λ C. C .head .lastMinute) (λ C. argument-given 16 (number-given noTrain) (leb (length (C .trains)) k)) (trainRun cs bk k)
       (train-decided cs bk k))
 
   pub single-numbered : (x : List ℕ) (k : ℕ) → Numbered (singleRun cs bk x k)
   single-numbered x k = go (single-decided cs bk x k)
     where
       go : SingleDecided cs bk x k (singleRun cs bk x k) → Numbered (singleRun cs bk x k)
-      go (singles.by-files f a q) = subst Numbered (sym q) (files-given cs bk f a)
-      go (singles.by-choice C a c q) = subst Numbered (sym q) (omega arith, λ e. omega arith)
-      go (singles.by-train C a c l q) = subst Numbered (sym q) (omega arith, λ e. omega arith)
+      go (singles.by-files f a q) = subst Numbered (sym q) (files-told cs bk f a .given)
+      go (singles.by-choice C a c q) = subst Numbered (sym q) (number-given wrongChoice)
+      go (singles.by-train C a c l q) = subst Numbered (sym q) (number-given noTrain)
       go (singles.by-run C a c l q) = subst Numbered (sym q) tt
 
 -- ---- no exported function answers refusal 13: whatever the files, the arguments and the memory, and at every stop minute

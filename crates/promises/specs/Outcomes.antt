@@ -3,17 +3,17 @@
 use mathlib.Core.Path.{_≡_, refl, sym, ap, _∙_, subst}
 use mathlib.Core.Bool.{Bool, true, false, cond}
 use mathlib.Core.List.{List, [], _++_, append-assoc}
-use Prim.Native.Nat.{ℕ, _-_, _*_, _≤_, _<_}
+use Prim.Native.Nat.{ℕ, _-_, _*_, _^_, _≤_, _<_}
 use native.Mathlib.Omega.{arith}
 use lib.ListN.{length, take, drop, replicate, length-append, length-replicate}
 use lib.Dec.{ltb}
 use borrow.Author.Tests.{ltb-false}
 use lib.Seq.{take-append-seam, drop-append-seam, take-at, drop-at}
-use Rattle.rules.specs.Lists.{each}
+use Rattle.rules.specs.Lists.{each, any}
 use Rattle.rules.specs.Refusals.{Refusal, Result}
 use Rattle.rules.specs.Refusals.Result.{refused, answer}
 use Rattle.rules.specs.Files.{mostTrains, Case, files}
-use Rattle.rules.specs.Joint.{joint, weightAt}
+use Rattle.rules.specs.Joint.{weight, joint, weightAt}
 use Rattle.rules.specs.Calls.{Run, Memory, Lent, call, short, filled, rowImage, weightsImage, rowsBytes, weightsBytes}
 use Rattle.theory_sound.specs.Accepted.{accepted-sound}
 use Rattle.theory_sound.specs.Places.{files-told}
@@ -21,8 +21,9 @@ use Rattle.theory_sound.specs.Runs.{Answered}
 use Rattle.rules.specs.Demands.{view}
 use Rattle.rules.specs.Decoded.{entriesIn, weightIn}
 use Rattle.rules.specs.Promised.{Outcome, Answers, Cleared, Unused, Meant, TextMeant, Outcome as outcome, refusalOf, full, lateStop, Bytes}
-use Rattle.theory_weights.specs.Room.{list-fits}
-use Rattle.theory_demands.specs.Demands.{demand-3, demand-2, demand-2-later, room-askers}
+use Rattle.theory_trace.specs.Room.{room-askers, list-fits}
+use Rattle.theory_weights.specs.Most.{none-heavy}
+use Rattle.theory_demands.specs.Demands.{demand-3, demand-2, demand-2-later, entries-light}
 use Rattle.theory_calls.specs.Memory.{cleared, written, call-short, call-refused, call-answered}
 use Rattle.theory_calls.specs.Decided.{Decided}
 use Rattle.theory_calls.specs.Decided.{Decided as decided}
@@ -58,7 +59,7 @@ pub outcome-told : {cs bk : List ℕ} {lacks : Bool} {arguments stop : Case → 
     → (S → T) → ((f : Refusal) → 1 ≤ f .number → R f → Q f) → ((C : Case) → files cs bk ≡ answer C → arguments C ≡ 0 → full C (stop C) ≡ false → A C → B C)
     → Outcome cs bk lacks arguments stop S R A → Outcome cs bk lacks arguments stop T Q B
 outcome-told s r a (outcome.lacks-memory h z) = outcome.lacks-memory h (s z)
-outcome-told {cs} {bk} s r a (outcome.refuses-files h f e z) = outcome.refuses-files h f e (r f (files-told cs bk f e .some-number) z)
+outcome-told {cs} {bk} s r a (outcome.refuses-files h f e z) = outcome.refuses-files h f e (r f (files-told cs bk f e .given .0) z)
 outcome-told s r a (outcome.refuses-arguments h C e b z) = outcome.refuses-arguments h C e b (r _ b z)
 outcome-told s r a (outcome.refuses-room h C e b p z) = outcome.refuses-room h C e b p (r (refusalOf 12) (omega arith) z)
 outcome-told s r a (outcome.answers h C e b p z) = outcome.answers h C e b p (a C e b p z)
@@ -111,7 +112,7 @@ module _ (cs bk : List ℕ) (p : Bytes cs) (q : Bytes bk) (C : Case) (accepted :
     (room : full C m ≡ false) where
   unrefused : joint C m .met ≡ 0
   unfolding full
-  unrefused = room-askers cs bk C accepted m ∙ ap (λ (b : Bool). cond b 12 0) room
+  unrefused = room-askers C m ∙ ap (λ (b : Bool). cond b 12 0) room
 
   pub run-answered : Answered cs bk m (runAt C m)
   run-answered = record { accepted = accepted; in-window = in-window; unrefused = unrefused; state = refl }
@@ -137,7 +138,7 @@ module _ (cs bk : List ℕ) (p : Bytes cs) (q : Bytes bk) (C : Case) (accepted :
       → weights′ ≡ filled weightsBytes (weightsImage (runAt C m)) weights → Meant C m n rows weights rows′ weights′
   memory-meant {n} {rows} {weights} {rows′} {weights′} size r w =
       let says : entriesIn n rows′ ≡ joint C m .list = rw (size, r) (rows-say rows) in
-      let few : length (joint C m .list) ≤ C .head .room = list-fits C (accepted-sound cs bk C accepted) m unrefused m (omega arith) in
+      let few : length (joint C m .list) ≤ C .head .room = list-fits C m unrefused m (omega arith) in
       let long : length (each rowImage (joint C m .list)) ≡ n * 16 =
       omega (arith, length-rows (joint C m .list) (list-shown cs bk p q m (runAt C m) run-answered)) in
       let unused : Unused 16384 (length (each rowImage (joint C m .list))) rows (filled rowsBytes (each rowImage (joint C m .list)) rows) =
@@ -147,6 +148,7 @@ module _ (cs bk : List ℕ) (p : Bytes cs) (q : Bytes bk) (C : Case) (accepted :
         seen = λ x c. ap (view x) says ∙ demand-3 cs bk C accepted x c m .list;
         simulates = λ x c t l. demand-3 cs bk C accepted x c t;
         fits = omega arith;
+        light = ap (any (λ r. ltb (10 ^ 14) (weight C (r .cover)))) says ∙ none-heavy C (joint C m .list) (entries-light cs bk C accepted m .0);
         rows-unused = rw r (rw long at unused);
         weighs = λ k t l h. rw w (weights-say weights k t l (omega (arith, accepted-sound cs bk C accepted .in-window)) ∙ demand-2 cs bk C accepted m in-window k t h);
         later = λ k t l h s. rw w (weights-say weights k t l s ∙ demand-2-later cs bk C accepted m k t h);

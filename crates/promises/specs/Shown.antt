@@ -18,7 +18,7 @@ use Rattle.theory_sound.specs.Runs.{Answered}
 use Rattle.theory_simulation.specs.Parts.{Parts}
 use Rattle.theory_simulation.specs.Simulation.{joint-proper}
 use Rattle.theory_weights.specs.Arrivals.{weightAt-most}
-use Rattle.theory_weights.specs.Room.{total-most}
+use Rattle.theory_weights.specs.Most.{total-most}
 use Rattle.theory_demands.specs.Demands.{seen}
 use Rattle.theory_passes.specs.Joint.{joint-passes}
 use Rattle.theory_passes.specs.Bounds.{Bounded, joint-bounded}

@@ -17,7 +17,7 @@ use Rattle.rules.specs.Joint.{Cover, Entry, joint, weightAt}
 use Rattle.rules.specs.Listing.{listing}
 use Rattle.rules.specs.Figures.{Figures, figures}
 
--- ---- the answers: the files and 11, then the call's arguments, then 12 and 13 as the run meets them; 12 to 17 have file 0 and place 0
+-- ---- the answers: the files and 11, then the call's arguments, then 12 as the run meets it; 12 to 17 have file 0 and place 0
 
 -- the case of the two files, judged first; then the call's arguments are judged, by the rules 15, 16 and 17 that the call has
 abbrev pub caseFor : List ℕ → List ℕ → (Case → List Rule) → Result Case

@@ -6,7 +6,7 @@ use lib.ListN.{length, getD, set}
 use lib.Dec.{leb, ltb, eqb}
 use Rattle.rules.specs.Lists.{one, each, keep, any, sum, below, has}
 use Rattle.rules.specs.Refusals.{_when_, verdict}
-use Rattle.rules.specs.Refusals.Fault.{noRoom, tooHeavy}
+use Rattle.rules.specs.Refusals.Fault.{noRoom}
 use Rattle.rules.specs.Files.{Case}
 use Rattle.rules.specs.Turns.{Place, same, Mark, capacity, entered, Arrival, arrives, arriving, Served, served, State, Rules, runFrom}
 use Rattle.rules.specs.Turns.Place.{gone}
@@ -155,10 +155,9 @@ serveEntry C t e rs r =
     (each (λ q. map (λ m. entry m (q .cover)) (entered C t e (r .mark))) entering)
     (each (λ q. map (covered (q .cover)) (arriving C t e (r .mark))) entering)
 
--- 12: the list has more entries than the room; 13: weight of an entry passes 10^14
+-- 12: the list has more entries than the room
 unfoldable pub checkList : Case → List Entry → ℕ
-checkList C rs =
-    verdict (noRoom when ltb (C .head .room) (length rs) ∷ tooHeavy when any (λ r. ltb (10 ^ 14) (weight C (r .cover))) rs ∷ [])
+checkList C rs = verdict (noRoom when ltb (C .head .room) (length rs) ∷ [])
 
 -- the items of the joint run are entries
 unfoldable pub jointRules : Case → Rules Entry

@@ -4,7 +4,7 @@ use mathlib.Core.Path.{_≡_}
 use mathlib.Core.Bool.{Bool, true, false, not, cond}
 use mathlib.Core.List.{List, [], _∷_, _++_}
 use mathlib.Core.Option.{Option, none, some}
-use Prim.Native.Nat.{ℕ, _+_, _-_, _*_, _≤_, _<_}
+use Prim.Native.Nat.{ℕ, _+_, _-_, _*_, _^_, _≤_, _<_}
 use lib.ListN.{length, getD, take, drop, replicate}
 use lib.Dec.{leb, ltb, eqb}
 use Rattle.rules.specs.Lists.{each, keep, any, sum, below}
@@ -12,7 +12,7 @@ use Rattle.rules.specs.Refusals.{Refusal, Result}
 use Rattle.rules.specs.Refusals.Result.{refused, answer}
 use Rattle.rules.specs.Files.{mostTrains, Case, files}
 use Rattle.rules.specs.Single.{single, arrival}
-use Rattle.rules.specs.Joint.{choices, weightOf, total, firstList, jointRules, joint}
+use Rattle.rules.specs.Joint.{choices, weightOf, weight, total, firstList, jointRules, joint}
 use Rattle.rules.specs.Listing.{decimal, line, totalWord, window, minuteLine}
 use Rattle.rules.specs.Figures.{plan, double, Figures}
 use Rattle.rules.specs.Figures.Punctuality.{never, always, share}
@@ -157,8 +157,9 @@ pub record Meant (C : Case) (m n : ℕ) (rows weights rows′ weights′ : List 
   pub seen : (x : List ℕ) → Choice C x → view x (entriesIn n rows′) ≡ single C x m .list
   -- and so after every minute up to m: trains and due minutes, blocks, none twice, within capacities
   pub simulates : (x : List ℕ) → Choice C x → (t : ℕ) → t ≤ m → Simulates C x t
-  -- the list has no more entries than the room
+  -- the list has no more entries than the room, and no entry weighs more than 10^14
   pub fits : n ≤ C .head .room
+  pub light : any (λ r. ltb (10 ^ 14) (weight C (r .cover))) (entriesIn n rows′) ≡ false
   pub rows-unused : Unused 16384 (n * 16) rows rows′
   -- demand 2: the weight of train k in minute t is that of exactly the choices whose single run brings the train to its last station in that minute
   pub weighs : (k t : ℕ) → k < mostTrains → t ≤ m → weightIn weights′ k t ≡ brought C k t

@@ -7,7 +7,7 @@ use Prim.Native.Nat.{ℕ, zero, suc}
 infix 70 _when_
 pub data Fault : Type 0 where
   overrun unknownTag misplaced wrongLength wrongCount outOfRange wrongEnds wrongPath wrongTimes wrongTable noTable : Fault
-  noRoom tooHeavy tooShort wrongChoice noTrain stopTooLate : Fault
+  noRoom tooShort wrongChoice noTrain stopTooLate : Fault
 
 abbrev pub number : Fault → ℕ
 number overrun = 1  -- a field's header or body runs past the end
@@ -22,7 +22,7 @@ number wrongTimes = 9  -- times out of order or past T
 number wrongTable = 10  -- delay table breaks a rule
 number noTable = 11  -- a train's type has no table
 number noRoom = 12  -- list of entries passes the room
-number tooHeavy = 13  -- weight of an entry passes 10^14
+-- 13 is retired and not used again (request 10 of 02): no refusal has it (`number-given`, crate `theory_sound`)
 number tooShort = 14  -- lent memory too short
 number wrongChoice = 15  -- choice with a wrong count or an index past the table
 number noTrain = 16  -- no such train

@@ -36,7 +36,7 @@ whole-told cs bk r h = go (files cs bk) refl h
     go : (R : Result Case) → files cs bk ≡ R → then R (λ C. runTo (C .head .lastMinute) C) ≡ refused r → 1 ≤ r .number
     go (refused s) e q =
         let is : s ≡ r = cc q in
-        omega (arith, ap (λ (a : Refusal). a .number) is, files-told cs bk s e .some-number)
+        omega (arith, ap (λ (a : Refusal). a .number) is, files-told cs bk s e .given .0)
     go (answer C) e q = met C (joint C (C .head .lastMinute) .met) q
 
 -- a line of a refusal is short

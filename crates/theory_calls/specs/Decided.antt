@@ -20,7 +20,7 @@ use Rattle.rules.specs.Demands.{Choice, passes, runLists}
 use Rattle.rules.specs.Promised.{refusalOf, full, lateStop, missingTrain}
 use Rattle.theory_sound.specs.Accepted.{accepted-sound}
 use Rattle.theory_simulation.specs.Choices.{unbroken-choice}
-use Rattle.theory_demands.specs.Demands.{room-askers}
+use Rattle.theory_trace.specs.Room.{room-askers}
 use Rattle.theory_demands.specs.Choices.{broken-no-choice}
 
 -- ---- the definitions
@@ -44,7 +44,7 @@ module _ (cs bk : List ℕ) where
   run-decided : (arguments stop : Case → ℕ) (r : Result Run) (C : Case) → files cs bk ≡ answer C → arguments C ≡ 0 → r ≡ runTo (stop C) C
       → Decided cs bk arguments stop r
   unfolding full
-  run-decided arguments stop r C e a q = go (any (passes (C .head .room)) (runLists C (jointRules C) (firstList C) (stop C))) refl (room-askers cs bk C e (stop C))
+  run-decided arguments stop r C e a q = go (any (passes (C .head .room)) (runLists C (jointRules C) (firstList C) (stop C))) refl (room-askers C (stop C))
     where
       go : (b : Bool) → any (passes (C .head .room)) (runLists C (jointRules C) (firstList C) (stop C)) ≡ b → joint C (stop C) .met ≡ cond b 12 0
           → Decided cs bk arguments stop r

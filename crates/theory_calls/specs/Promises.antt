@@ -19,11 +19,10 @@ use Rattle.rules.specs.Calls.{Run, stoppedRun, wholeRun, trainRun, Memory, text
 use Rattle.rules.specs.Figures.{figures}
 use Rattle.rules.specs.Demands.{Choice, Simulates, arrivesIn}
 use Rattle.rules.specs.Promised.{missing, countedFigures, countedListing, refusalOf, full, lateStop, missingTrain, RefusedWith, Full}
-use Rattle.theory_sound.specs.Accepted.{accepted-sound}
 use Rattle.theory_sound.specs.Window.{files-window}
 use Rattle.theory_sound.specs.Places.{files-told}
 use Rattle.theory_sound.specs.Verdicts.{refused-answer, answer-answer, refused-refused}
-use Rattle.theory_weights.specs.Room.{list-fits}
+use Rattle.theory_trace.specs.Room.{list-fits}
 use Rattle.theory_demands.specs.Demands.{demand-3, demand-2, demand-2-later, demand-2-not-arrived}
 use Rattle.theory_sound.specs.Runs.{Answered, stopped-answer, whole-answer, train-answer}
 use Rattle.theory_calls.specs.Decided.{Decided, stopped-decided, whole-decided, train-decided}
@@ -98,7 +97,7 @@ promised : (cs bk : List ℕ) (m : ℕ) (u : Run) → Answered cs bk m u → Pro
 promised cs bk m u a = record {
   answered = a;
   simulates = λ x choice n h. demand-3 cs bk (u .of) (a .accepted) x choice n;
-  fits = λ n h. list-fits (u .of) (accepted-sound cs bk (u .of) (a .accepted)) m (a .unrefused) n h;
+  fits = λ n h. list-fits (u .of) m (a .unrefused) n h;
   weighs = λ k t h. ap (λ (s : State Entry). weightAt (u .of) (s .arrived) k t) (a .state) ∙ demand-2 cs bk (u .of) (a .accepted) m (a .in-window) k t h;
   later = λ k t h. ap (λ (s : State Entry). weightAt (u .of) (s .arrived) k t) (a .state) ∙ demand-2-later cs bk (u .of) (a .accepted) m k t h;
 }

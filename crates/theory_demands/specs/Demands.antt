@@ -1,15 +1,14 @@
 -- Demands 2 and 3 about the definitions, for every case that the reading accepts from bytes. Each is in the words of the demand, and its proof cites
 -- the crates below: `theory_sound` (what the reading makes true), `theory_simulation` (what a choice sees), `theory_weights` (sums over choices). Assumes nothing.
 use mathlib.Core.Path.{_≡_}
-use mathlib.Core.Bool.{_||_, cond}
 use mathlib.Core.List.{List}
-use Prim.Native.Nat.{ℕ, suc, _*_, _≤_, _<_}
-use Rattle.rules.specs.Lists.{keep, tick, sum, any, below}
+use Prim.Native.Nat.{ℕ, _*_, _≤_, _<_}
+use Rattle.rules.specs.Lists.{keep, tick, sum}
 use Rattle.rules.specs.Refusals.Result.{answer}
 use Rattle.rules.specs.Files.{Case, files}
 use Rattle.rules.specs.Joint.{covers, choices, weightOf, weight, total, firstList, jointRules, joint, weightAt}
 use Rattle.rules.specs.Listing.{notArrived}
-use Rattle.rules.specs.Demands.{Choice, Simulates, arrivesIn, arrivesNever, runLists, passes}
+use Rattle.rules.specs.Demands.{Choice, Simulates, arrivesIn, arrivesNever, runLists}
 use Rattle.theory_sound.specs.Facts.{Sound}
 use Rattle.theory_sound.specs.Accepted.{accepted-sound}
 use Rattle.theory_lists.specs.Every.{Every, every-more}
@@ -17,7 +16,7 @@ use Rattle.theory_simulation.specs.Serving.{Proper}
 use Rattle.theory_simulation.specs.Simulation.{Sets, joint-proper, joint-sets, simulation}
 use Rattle.theory_weights.specs.Choices.{weight-covers, weight-all}
 use Rattle.theory_weights.specs.Arrivals.{Seen, joint-seen, arrived-weight, arrived-later, notArrived-weight}
-use Rattle.theory_weights.specs.Room.{met-askers, met-minutes}
+use Rattle.theory_weights.specs.Most.{Light, proper-light, lists-light}
 
 module _ (cs bk : List ℕ) (C : Case) (accepted : files cs bk ≡ answer C) where
   case-sound : Sound C
@@ -64,13 +63,16 @@ module _ (cs bk : List ℕ) (C : Case) (accepted : files cs bk ≡ answer C) whe
   pub choices-weigh : sum (weightOf C) (choices C) ≡ total C
   choices-weigh = weight-all C case-sound
 
-  -- ---- the room
+  -- ---- no entry weighs more than 10^14, which is why refusal 13 never came
 
-  -- Refusal 12 comes exactly when the first list, or the list after some asking entry was served, has more entries than the room; and no other refusal comes.
-  pub room-askers : (m : ℕ) → joint C m .met ≡ cond (any (passes (C .head .room)) (runLists C (jointRules C) (firstList C) m)) 12 0
-  room-askers m = met-askers C case-sound m
+  -- after a minute, and of those that have arrived
+  pub entries-light : (m : ℕ) → Every (Light C) (joint C m .list) × Every (λ v. Light C (v .who)) (joint C m .arrived)
+  entries-light m =
+      let proper = joint-proper C case-sound m in (
+        every-more (Proper C) (Light C) (proper-light C case-sound) (joint C m .list) (proper .0),
+        every-more (λ v. Proper C (v .who)) (λ v. Light C (v .who)) (λ v. proper-light C case-sound (v .who)) (joint C m .arrived) (proper .1),
+      )
 
-  -- It may be tested at the end of each minute.
-  pub room-minutes : (m : ℕ)
-      → joint C m .met ≡ cond (passes (C .head .room) (firstList C) || any (λ n. passes (C .head .room) (joint C n .list)) (below (suc m))) 12 0
-  room-minutes m = met-minutes C case-sound m
+  -- in the first list, and in the list after each asking entry was served
+  pub askers-light : (m : ℕ) → Every (Every (Light C)) (runLists C (jointRules C) (firstList C) m)
+  askers-light m = lists-light C case-sound m

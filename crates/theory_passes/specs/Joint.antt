@@ -20,7 +20,7 @@ use Rattle.theory_lists.specs.Sums.{count-le, length-keep}
 use Rattle.theory_simulation.specs.Serving.{Proper, serve-proper}
 use Rattle.theory_simulation.specs.Start.{first-proper}
 use Rattle.theory_trace.specs.Longest.{serveEntry-grows}
-use Rattle.theory_weights.specs.Room.{checkList-room}
+use Rattle.theory_trace.specs.Room.{checkList-room}
 use Rattle.theory_passes.specs.Passes.{asksFor, passList, pass, cleared, jointPasses}
 use Rattle.theory_passes.specs.Walk.{met-within, walk, walkAll, walk-keeps, walk-nobody, walk-met}
 use Rattle.theory_passes.specs.Marks.{joint-own}
@@ -36,10 +36,10 @@ pub record Lawful (C : Case) (s : State Entry) : Type 0 where
   pub fits : s .met ≡ 0 → length (s .list) ≤ C .head .room
 
 -- where nothing is met once the list stands, it has room
-met-fits : (C : Case) → Sound C → (n : ℕ) (l : List Entry) → Every (Proper C) l → firstOf (ltb 0 n) n (checkList C l) ≡ 0 → length l ≤ C .head .room
-met-fits C sound n l p h = ltb-false (C .head .room) (length l) (met-within n (passes (C .head .room) l) (checkList C l) (checkList-room C sound l p) h)
+met-fits : (C : Case) (n : ℕ) (l : List Entry) → firstOf (ltb 0 n) n (checkList C l) ≡ 0 → length l ≤ C .head .room
+met-fits C n l h = ltb-false (C .head .room) (length l) (met-within n (passes (C .head .room) l) (checkList C l) (checkList-room C l) h)
 
-module _ (C : Case) (sound : Sound C) where
+module _ (C : Case) where
   module _ (t : ℕ) (e : Place) (k : ℕ) where
     -- ---- one pass
 
@@ -58,10 +58,8 @@ module _ (C : Case) (sound : Sound C) where
       where
         met : walkAll C (jointRules C) t e k s .met ≡ firstOf (ltb 0 (s .met)) (s .met) (checkList C (passList C t e k (s .list)))
         met =
-            walk-met C (jointRules C) t e (serveEntry-grows C) (C .head .room) (Every (Proper C)) (checkList-room C sound)
-            (λ b a c ask h. serve-proper C t e b a c [] h tt .0)
-            k [] (s .list) [] (s .arrived) (s .met) (subst (Every (Proper C)) (sym (append-nil (s .list))) (w .proper))
-            (λ z. le-trans (le-of-eq (ap length (append-nil (s .list)))) (w .fits z))
+            walk-met C (jointRules C) t e (serveEntry-grows C) (C .head .room) (checkList-room C)
+            k [] (s .list) [] (s .arrived) (s .met) (λ z. le-trans (le-of-eq (ap length (append-nil (s .list)))) (w .fits z))
             ∙ ap (λ (l : List Entry). firstOf (ltb 0 (s .met)) (s .met) (checkList C l)) (walk-list C t e k (s .list) (s .arrived) (s .met))
 
     passList-proper : (s : State Entry) → Lawful C s → Every (Proper C) (passList C t e k (s .list))
@@ -73,7 +71,7 @@ module _ (C : Case) (sound : Sound C) where
     pass-lawful s w = record {
       proper = passList-proper s w;
       arrivals = subst (Every (λ v. Proper C (v .who))) (walk-arrived C t e k (s .list) (s .arrived) (s .met)) (walk-proper (s .list) (s .arrived) (s .met) (w .proper) (w .arrivals) .1);
-      fits = met-fits C sound (s .met) (passList C t e k (s .list)) (passList-proper s w);
+      fits = met-fits C (s .met) (passList C t e k (s .list));
     }
 
     -- ---- a pass of a train that does not ask
@@ -88,10 +86,9 @@ module _ (C : Case) (sound : Sound C) where
     -- ---- what a pass meets
 
     -- a pass of an unrefused state meets 12 exactly where its list passes the room
-    pub pass-met : (s : State Entry) → Lawful C s → s .met ≡ 0 → pass C t e k s .met ≡ cond (passes (C .head .room) (passList C t e k (s .list))) 12 0
+    pub pass-met : (s : State Entry) → s .met ≡ 0 → pass C t e k s .met ≡ cond (passes (C .head .room) (passList C t e k (s .list))) 12 0
     unfolding pass
-    pass-met s w h =
-        ap (λ (n : ℕ). firstOf (ltb 0 n) n (checkList C (passList C t e k (s .list)))) h ∙ checkList-room C sound (passList C t e k (s .list)) (passList-proper s w)
+    pass-met s h = ap (λ (n : ℕ). firstOf (ltb 0 n) n (checkList C (passList C t e k (s .list)))) h ∙ checkList-room C (passList C t e k (s .list))
 
     -- once something is met, it stays
 
@@ -108,13 +105,14 @@ module _ (C : Case) (sound : Sound C) where
 
   -- ---- the run
 
-  -- the state before minute 0
-  pub first-lawful : Lawful C (state (firstList C) [] (checkList C (firstList C)))
-  first-lawful = record { proper = first-proper C sound; arrivals = tt; fits = met-fits C sound 0 (firstList C) (first-proper C sound) }
+  module _ (sound : Sound C) where
+    -- the state before minute 0
+    pub first-lawful : Lawful C (state (firstList C) [] (checkList C (firstList C)))
+    first-lawful = record { proper = first-proper C sound; arrivals = tt; fits = met-fits C 0 (firstList C) }
 
-  -- the joint run is the run by passes
-  pub joint-passes : (m : ℕ) → joint C m ≡ jointPasses C m
-  unfolding joint jointPasses jointRules
-  joint-passes m =
-      runs.run-codes C (jointRules C) (pass C) m (Lawful C) (λ t h. pass-lawful t) (λ t h. cleared-lawful t) sound (joint-own C) (λ t h. walk-pass t)
-      (firstList C) first-lawful m (le-refl m)
+    -- the joint run is the run by passes
+    pub joint-passes : (m : ℕ) → joint C m ≡ jointPasses C m
+    unfolding joint jointPasses jointRules
+    joint-passes m =
+        runs.run-codes C (jointRules C) (pass C) m (Lawful C) (λ t h. pass-lawful t) (λ t h. cleared-lawful t) sound (joint-own C) (λ t h. walk-pass t)
+        (firstList C) first-lawful m (le-refl m)

@@ -157,27 +157,22 @@ module _ {A : Type 0} (C : Case) (R : Rules A) (t : ℕ) (e : Place) where
 
     -- ---- the room
 
-    -- where lists with P are refused for the room alone, and serving keeps P
-    module _ (room : ℕ) (P : List A → Type 0) (by-room : (l : List A) → P l → R .check l ≡ cond (passes room l) 12 0)
-        (by-serve : (b : List A) (a : A) (c : List A) → asks C t e (R .mark a) ≡ true → P (b ++ (a ∷ c)) → P (servedList (R .serve t e (b ++ (a ∷ c)) a) b c)) where
-      kept : (k : ℕ) (done rest new : List A) (v : List (Arrival A)) (n : ℕ) → P (done ++ (rest ++ new)) → P (walk k done rest new v n .list)
-      kept k done rest new v n p = walk-keeps (λ l w. P l) (λ b a c w q h. by-serve b a c q h) k done rest new v n p
-
+    -- where lists are refused for the room alone
+    module _ (room : ℕ) (by-room : (l : List A) → R .check l ≡ cond (passes room l) 12 0) where
       -- 12 is met during the walk exactly where its last list passes the room
-      pub walk-met : (k : ℕ) (done rest new : List A) (v : List (Arrival A)) (n : ℕ) → P (done ++ (rest ++ new)) → (n ≡ 0 → length (done ++ (rest ++ new)) ≤ room)
+      pub walk-met : (k : ℕ) (done rest new : List A) (v : List (Arrival A)) (n : ℕ) → (n ≡ 0 → length (done ++ (rest ++ new)) ≤ room)
           → walk k done rest new v n .met ≡ metWith n (walk k done rest new v n .list)
       unfolding walk
-      walk-met k done [] new v n p fits =
-          sym (met-stays n (passes room (done ++ new)) (R .check (done ++ new)) (by-room (done ++ new) p) (λ z. le-ltb room (length (done ++ new)) (fits z)))
-      walk-met k done (a ∷ rest) new v n p fits = go (mine k a) refl (λ d w. walk-met k d rest w)
+      walk-met k done [] new v n fits =
+          sym (met-stays n (passes room (done ++ new)) (R .check (done ++ new)) (by-room (done ++ new)) (λ z. le-ltb room (length (done ++ new)) (fits z)))
+      walk-met k done (a ∷ rest) new v n fits = go (mine k a) (λ d w. walk-met k d rest w)
         where
-          go : (b : Bool) → mine k a ≡ b
-              → ((d w : List A) (v : List (Arrival A)) (n : ℕ) → P (d ++ (rest ++ w)) → (n ≡ 0 → length (d ++ (rest ++ w)) ≤ room) → walk k d rest w v n .met ≡ metWith n (walk k d rest w v n .list))
+          go : (b : Bool)
+              → ((d w : List A) (v : List (Arrival A)) (n : ℕ) → (n ≡ 0 → length (d ++ (rest ++ w)) ≤ room) → walk k d rest w v n .met ≡ metWith n (walk k d rest w v n .list))
               → walkOne (λ d w. walk k d rest w) done a rest new v n b .met ≡ metWith n (walkOne (λ d w. walk k d rest w) done a rest new v n b .list)
-          go true q ih =
-              ih (done ++ s .rows) (new ++ s .added) (v ++ s .arrived) m here within
-              ∙ met-then n (passes room mid) (passes room last) (R .check mid) (R .check last)
-              (by-room mid after) (by-room last (kept k (done ++ s .rows) rest (new ++ s .added) (v ++ s .arrived) m here))
+          go true ih =
+              ih (done ++ s .rows) (new ++ s .added) (v ++ s .arrived) m within
+              ∙ met-then n (passes room mid) (passes room last) (R .check mid) (R .check last) (by-room mid) (by-room last)
               (λ h. lt-ltb room (length last)
               (omega (arith, ltb-true room (length mid) h, walk-longer k (done ++ s .rows) rest (new ++ s .added) (v ++ s .arrived) m, ap length (served-list s done rest new))))
             where
@@ -193,18 +188,11 @@ module _ {A : Type 0} (C : Case) (R : Rules A) (t : ℕ) (e : Place) where
               last : List A
               last = walk k (done ++ s .rows) rest (new ++ s .added) (v ++ s .arrived) m .list
 
-              after : P mid
-              after = by-serve done a (rest ++ new) (asksFor-asks C t e k (R .mark a) q) p
-
-              here : P ((done ++ s .rows) ++ (rest ++ (new ++ s .added)))
-              here = subst P (served-list s done rest new) after
-
               within : m ≡ 0 → length ((done ++ s .rows) ++ (rest ++ (new ++ s .added))) ≤ room
               within z =
                   omega (
                     arith,
-                    ltb-false room (length mid) (met-within n (passes room mid) (R .check mid) (by-room mid after) z),
+                    ltb-false room (length mid) (met-within n (passes room mid) (R .check mid) (by-room mid) z),
                     ap length (served-list s done rest new),
                   )
-          go false q ih =
-              ih (done ++ (a ∷ [])) new v n (subst P (sym (stayed-list done a rest new)) p) (λ z. omega (arith, fits z, ap length (stayed-list done a rest new)))
+          go false ih = ih (done ++ (a ∷ [])) new v n (λ z. omega (arith, fits z, ap length (stayed-list done a rest new)))

@@ -7,17 +7,18 @@ use native.Mathlib.Omega.{arith}
 use lib.ListN.{length}
 use lib.Dec.{eqb}
 use Rattle.rules.specs.Refusals.{number, Rule, verdict, Refusal}
+use Rattle.rules.specs.Refusals.Fault.{noTable}
 use Rattle.rules.specs.Refusals.Result.{refused}
 use Rattle.rules.specs.Files.{Train, File, fileNumber, spot, Contents, byte, headOf, trackOf, trainOf, tableOf, headRules, stationRules, trackRules, trainRules, tableRules, bodyRules, body, fieldRules, endRules, readField, readFields, empty, read, Case, tablesOf, caseOf, lacking, noneLacking, files}
 use Rattle.rules.specs.Files.File.{case, book}
 use Rattle.theory_lists.specs.Every.{Every, every-cond, every-keep}
-use Rattle.theory_sound.specs.Verdicts.{refused-answer, refused-refused, unless-refused, onward-refused, then-refused, verdict-few, field-accepted, past, rest, withField}
+use Rattle.theory_sound.specs.Verdicts.{refused-answer, refused-refused, unless-refused, onward-refused, then-refused, Given, number-given, verdict-given, verdict-few, field-accepted, past, rest, withField}
 use Rattle.theory_sound.specs.Reading.{read-keeps}
 use Rattle.theory_sound.specs.Bounds.{Within, within-empty, within-bytes, within-more}
 
 -- a refusal with a number of at most n
 pub record Told (n : ℕ) (r : Refusal) : Type 0 where
-  pub some-number : 1 ≤ r .number
+  pub given : Given (r .number)
   pub few-numbers : r .number ≤ n
   pub two-files : r .file ≤ 1
   pub in-reach : r .place ≤ 819
@@ -50,20 +51,21 @@ unfolding endRules
 end-few case c = verdict-few 10 (endRules case c) (omega arith)
 end-few book c = omega arith
 
-told : (f : File) (c : Contents) (at v : ℕ) (r : Refusal) → Within at c → v ≤ 10 → 1 ≤ v → record { number = v; file = fileNumber f; place = at } ≡ r → Told 10 r
-told f c at v r p few some e =
-    subst (Told 10) e (record { some-number = some; few-numbers = few; two-files = file-few f; in-reach = within-bytes at c p })
+told : (f : File) (c : Contents) (at : ℕ) (rs : List Rule) (r : Refusal) → Within at c → verdict rs ≤ 10 → 1 ≤ verdict rs
+    → record { number = verdict rs; file = fileNumber f; place = at } ≡ r → Told 10 r
+told f c at rs r p few some e =
+    subst (Told 10) e (record { given = verdict-given rs some; few-numbers = few; two-files = file-few f; in-reach = within-bytes at c p })
 
 readFields-told : (n at : ℕ) (f : File) (l : List ℕ) (c : Contents) (r : Refusal) → Within at c → readFields n f at l c ≡ refused r → Told 10 r
 unfolding readFields readField
 readFields-told zero at f l c r p h = absurd (refused-answer r c (sym h))
 readFields-told (suc n) at f [] c r p h =
     let u = unless-refused (verdict (endRules f c)) (spot f at) c r h in
-    told f c at (verdict (endRules f c)) r p (end-few f c) (u .0) (u .1)
+    told f c at (endRules f c) r p (end-few f c) (u .0) (u .1)
 readFields-told (suc n) at f (b ∷ l) c r p h =
     onward-refused (Told 10 r) (verdict (fieldRules f c at (b ∷ l))) (spot f at) (withField c at (b ∷ l)) (readFields n f (past at (b ∷ l)) (rest (b ∷ l))) r h
     (λ z e. readFields-told n (past at (b ∷ l)) f (rest (b ∷ l)) (withField c at (b ∷ l)) r (within-more f c at (b ∷ l) (field-accepted f c at (b ∷ l) z) p) e)
-    (told f c at (verdict (fieldRules f c at (b ∷ l))) r p (field-few f c at (b ∷ l)))
+    (told f c at (fieldRules f c at (b ∷ l)) r p (field-few f c at (b ∷ l)))
 
 pub read-told : (f : File) (l : List ℕ) (r : Refusal) → read f l ≡ refused r → Told 10 r
 unfolding read
@@ -73,7 +75,7 @@ read-told f l r h = readFields-told (suc (length l)) 0 f l empty r within-empty 
 
 more-told : (r : Refusal) → Told 10 r → Told 11 r
 more-told r t = record {
-  some-number = t .some-number;
+  given = t .given;
   few-numbers = omega (arith, t .few-numbers);
   two-files = t .two-files;
   in-reach = t .in-reach;
@@ -83,7 +85,7 @@ lacking-told : (ts : List Train) (C : Case) (r : Refusal) → Every (λ t. t .pl
 lacking-told [] C r p h = absurd (refused-answer r C (sym h))
 lacking-told (t ∷ ts) C r p h =
     subst (Told 11) (refused-refused _ r h)
-    (record { some-number = omega arith; few-numbers = omega arith; two-files = omega arith; in-reach = p .0 })
+    (record { given = number-given noTable; few-numbers = omega arith; two-files = omega arith; in-reach = p .0 })
 
 pub files-told : (cs bk : List ℕ) (r : Refusal) → files cs bk ≡ refused r → Told 11 r
 unfolding files

@@ -9,7 +9,7 @@ use lib.ListN.{length, drop, length-drop}
 use borrow.Author.Tests.{ltb-false, leb-false, not-false}
 use Rattle.rules.specs.Lists.{has}
 use Rattle.rules.specs.Refusals.{Fault, number, Rule, firstOf, verdict, Refusal, Spot, Result, then, answerUnless}
-use Rattle.rules.specs.Refusals.Fault.{overrun, unknownTag, misplaced, wrongLength, wrongCount, outOfRange, wrongEnds, wrongPath, wrongTimes, wrongTable, noTable, noRoom, tooHeavy, tooShort, wrongChoice, noTrain, stopTooLate}
+use Rattle.rules.specs.Refusals.Fault.{overrun, unknownTag, misplaced, wrongLength, wrongCount, outOfRange, wrongEnds, wrongPath, wrongTimes, wrongTable, noTable, noRoom, tooShort, wrongChoice, noTrain, stopTooLate}
 use Rattle.rules.specs.Refusals.Result.{refused, answer}
 use Rattle.rules.specs.Files.{File, Contents, byte, known, inPlace, lengths, most, howMany, size, body, bodyRules, fieldRules, more}
 use Rattle.theory_lists.specs.Every.{Every}
@@ -61,24 +61,27 @@ then-refused X (answer a) go r h on off = on a refl h
 
 -- ---- rules
 
-some-number : (f : Fault) → 1 ≤ number f
-some-number overrun = omega arith
-some-number unknownTag = omega arith
-some-number misplaced = omega arith
-some-number wrongLength = omega arith
-some-number wrongCount = omega arith
-some-number outOfRange = omega arith
-some-number wrongEnds = omega arith
-some-number wrongPath = omega arith
-some-number wrongTimes = omega arith
-some-number wrongTable = omega arith
-some-number noTable = omega arith
-some-number noRoom = omega arith
-some-number tooHeavy = omega arith
-some-number tooShort = omega arith
-some-number wrongChoice = omega arith
-some-number noTrain = omega arith
-some-number stopTooLate = omega arith
+-- a number that a refusal can have: 0 says that nothing was refused, and 13 is retired (request 10 of 02)
+abbrev pub Given : ℕ → Type 0
+Given n = (1 ≤ n) × (n ≡ 13 → ⊥)
+
+pub number-given : (f : Fault) → Given (number f)
+number-given overrun = (omega arith, λ e. omega arith)
+number-given unknownTag = (omega arith, λ e. omega arith)
+number-given misplaced = (omega arith, λ e. omega arith)
+number-given wrongLength = (omega arith, λ e. omega arith)
+number-given wrongCount = (omega arith, λ e. omega arith)
+number-given outOfRange = (omega arith, λ e. omega arith)
+number-given wrongEnds = (omega arith, λ e. omega arith)
+number-given wrongPath = (omega arith, λ e. omega arith)
+number-given wrongTimes = (omega arith, λ e. omega arith)
+number-given wrongTable = (omega arith, λ e. omega arith)
+number-given noTable = (omega arith, λ e. omega arith)
+number-given noRoom = (omega arith, λ e. omega arith)
+number-given tooShort = (omega arith, λ e. omega arith)
+number-given wrongChoice = (omega arith, λ e. omega arith)
+number-given noTrain = (omega arith, λ e. omega arith)
+number-given stopTooLate = (omega arith, λ e. omega arith)
 
 -- no rule is broken
 abbrev pub Unbroken : List Rule → Type 0
@@ -89,8 +92,16 @@ verdict-unbroken [] h = tt
 verdict-unbroken (r ∷ rs) h = go (r .broken) h (verdict-unbroken rs)
   where
     go : (b : Bool) → firstOf b (number (r .fault)) (verdict rs) ≡ 0 → (verdict rs ≡ 0 → Unbroken rs) → (b ≡ false) × Unbroken rs
-    go true h i = absurd (omega (arith, some-number (r .fault)))
+    go true h i = absurd (omega (arith, number-given (r .fault) .0))
     go false h i = (refl, i h)
+
+pub verdict-given : (rs : List Rule) → 1 ≤ verdict rs → Given (verdict rs)
+verdict-given [] h = absurd (omega arith)
+verdict-given (r ∷ rs) h = go (r .broken) h (verdict-given rs)
+  where
+    go : (b : Bool) → 1 ≤ firstOf b (number (r .fault)) (verdict rs) → (1 ≤ verdict rs → Given (verdict rs)) → Given (firstOf b (number (r .fault)) (verdict rs))
+    go true h i = number-given (r .fault)
+    go false h i = i h
 
 pub verdict-few : (n : ℕ) (rs : List Rule) → Every (λ r. number (r .fault) ≤ n) rs → verdict rs ≤ n
 verdict-few n [] e = omega arith

@@ -1,2 +1,3 @@
 pub mod Trace
 pub mod Longest
+pub mod Room

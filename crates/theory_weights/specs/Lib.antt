@@ -4,4 +4,4 @@ pub mod Kept
 pub mod Log
 pub mod Arrivals
 pub mod Figures
-pub mod Room
+pub mod Most
