@@ -2,19 +2,18 @@
 -- pieces of the askers, if the element is the train's last station. By the cases of serving. Assumes nothing.
 use mathlib.Core.Path.{_≡_, refl, sym, ap, ap₂, _∙_, subst}
 use mathlib.Core.Bool.{Bool, true, false, not, _&&_, cond}
-use mathlib.Core.List.{List, [], _∷_, map}
-use Prim.Native.Nat.{ℕ, _+_}
+use mathlib.Core.List.{List, [], _∷_, _++_, map}
+use Prim.Native.Nat.{ℕ, _+_, _*_}
 use native.Mathlib.Omega.{arith}
 use lib.Dec.{eqb}
-use Rattle.rules.specs.Lists.{one, each, keep, sum}
+use Rattle.rules.specs.Lists.{one, each, keep, tick, sum}
 use Rattle.rules.specs.Files.{Case}
 use Rattle.rules.specs.Turns.{Place, same, stands, lastStation, Served, served, State, Arrival, arrives, dueAgain}
 use Rattle.rules.specs.Joint.{Cover, Entry, Piece, meets, weight, weightAt, covered}
 use Rattle.theory_sound.specs.Facts.{Sound}
 use Rattle.theory_lists.specs.Each.{each-none, each-self}
 use Rattle.theory_lists.specs.Every.{each-every, Every, every-map, every-each, every-one, every-all}
-use Rattle.theory_lists.specs.Sums.{sum-each, sum-every, sum-zero}
-use Rattle.theory_weights.specs.Entries.{weightAt-append}
+use Rattle.theory_lists.specs.Sums.{sum-append, sum-each, sum-every, sum-zero, sum-keep}
 use Rattle.theory_passes.specs.Passes.{asksFor, piecesAmong, passed, passArrived, pass}
 use Rattle.theory_passes.specs.Before.{newMarks, arrivalMarks, serveWith, passed-with}
 
@@ -27,6 +26,17 @@ unfoldable pub arrivedWeight : Case → ℕ → Place → ℕ → List Entry →
 arrivedWeight C t e k l =
     let qs = meets e k l in
     cond (same e (lastStation C k)) (sum (λ r. cond (asksFor C t e k (r .mark)) (enteringWeight C e qs (r .cover)) 0) l) 0
+
+-- the weights of more arrivals are added
+weightAt-append : (C : Case) (rs us : List (Arrival Entry)) (k t : ℕ) → weightAt C (rs ++ us) k t ≡ weightAt C rs k t + weightAt C us k t
+unfolding weightAt
+weightAt-append C rs us k t =
+    sum-keep (λ r. weight C (r .who .cover)) test (rs ++ us)
+    ∙ sum-append (λ r. tick (test r) * weight C (r .who .cover)) rs us
+    ∙ ap₂ _+_ (sym (sum-keep (λ r. weight C (r .who .cover)) test rs)) (sym (sum-keep (λ r. weight C (r .who .cover)) test us))
+  where
+    test : Arrival Entry → Bool
+    test r = eqb (r .who .mark .train) k && eqb (r .minute) t
 
 module _ (C : Case) (sound : Sound C) (t : ℕ) (e : Place) (k : ℕ) where
   -- what arrives of an entry

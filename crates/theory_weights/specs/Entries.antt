@@ -12,7 +12,7 @@ use Rattle.rules.specs.Files.{Case}
 use Rattle.rules.specs.Turns.{Mark, Arrival, arrives}
 use Rattle.rules.specs.Joint.{Entry, covers, choices, weightOf, weight, weightAt}
 use Rattle.rules.specs.Demands.{arrivalsSeen}
-use Rattle.theory_lists.specs.Sums.{sum-append, sum-same, sum-times, sum-plus, sum-zero, sum-keep}
+use Rattle.theory_lists.specs.Sums.{sum-same, sum-times, sum-plus, sum-zero, sum-keep}
 use Rattle.theory_lists.specs.Every.{Every}
 use Rattle.theory_simulation.specs.Serving.{Proper}
 use Rattle.theory_weights.specs.Choices.{weight-covers}
@@ -54,14 +54,3 @@ unfolding weightAt
 weightAt-choices C rs k t h =
     sum-keep (λ r. weight C (r .who .cover)) (λ r. eqb (r .who .mark .train) k && eqb (r .minute) t) rs
     ∙ arrivals-choices C (λ v. eqb (v .who .train) k && eqb (v .minute) t) rs h
-
--- the weights of more arrivals are added
-pub weightAt-append : (C : Case) (rs us : List (Arrival Entry)) (k t : ℕ) → weightAt C (rs ++ us) k t ≡ weightAt C rs k t + weightAt C us k t
-unfolding weightAt
-weightAt-append C rs us k t =
-    sum-keep (λ r. weight C (r .who .cover)) test (rs ++ us)
-    ∙ sum-append (λ r. tick (test r) * weight C (r .who .cover)) rs us
-    ∙ ap₂ _+_ (sym (sum-keep (λ r. weight C (r .who .cover)) test rs)) (sym (sum-keep (λ r. weight C (r .who .cover)) test us))
-  where
-    test : Arrival Entry → Bool
-    test r = eqb (r .who .mark .train) k && eqb (r .minute) t
