@@ -5,9 +5,6 @@ use crate::plan::{still_blocks, Place, Plan};
 use crate::refusal;
 use std::collections::BTreeMap;
 
-/// The most an entry may weigh: 10^14.
-const MOST_WEIGHT: u64 = 100_000_000_000_000;
-
 /// Whether an entry's train stands at the place or blocks it.
 #[derive(Clone, Copy, Debug, PartialEq, Eq)]
 pub enum Kind {
@@ -32,7 +29,7 @@ pub struct JointRun {
     pub arrivals: BTreeMap<(usize, u32), u64>,
 }
 
-/// Runs up to and including a stop minute, or gives refusal 12 or 13 as the run meets it.
+/// Runs up to and including a stop minute, or gives refusal 12 as the run meets it.
 pub fn run(plan: &Plan, stop: u32) -> Result<JointRun, u8> {
     let mut joint = JointRun::start(plan)?;
     for t in 0..=stop {
@@ -47,14 +44,12 @@ impl JointRun {
         let mut list = Vec::new();
         for train in 0..plan.trains() {
             for delay in 0..plan.tables[train].delays.len() {
-                let cover = first_cover(plan, train, delay);
-                judge_weights(plan, std::slice::from_ref(&cover))?;
                 list.push(Entry {
                     train,
                     place: Place::Outside,
                     kind: Kind::Stands,
                     minute: plan.first_due(train, delay),
-                    cover,
+                    cover: first_cover(plan, train, delay),
                 });
             }
         }
@@ -93,8 +88,6 @@ impl JointRun {
     /// Serves one asking entry: held pieces take its row, entering pieces go to the end.
     fn serve(&mut self, plan: &Plan, asker: &Entry, element: Place, t: u32) -> Result<(), u8> {
         let Cut { held, entering } = self.cut_asker(plan, asker, element);
-        judge_weights(plan, &held)?;
-        judge_weights(plan, &entering)?;
         let row = self.row_of(asker);
         let waiting = held.into_iter().map(|cover| Entry {
             cover,
@@ -163,14 +156,5 @@ impl JointRun {
             true => Err(refusal::ROOM),
             false => Ok(()),
         }
-    }
-}
-
-/// Refusal 13: an entry with one of these covers weighs more than 10^14.
-fn judge_weights(plan: &Plan, covers: &[Cover]) -> Result<(), u8> {
-    let too_heavy = |cover: &Cover| weight(plan, cover) > MOST_WEIGHT;
-    match covers.iter().any(too_heavy) {
-        true => Err(refusal::WEIGHT),
-        false => Ok(()),
     }
 }

@@ -24,8 +24,7 @@ pub const TABLE: u8 = 10;
 pub const NO_TABLE: u8 = 11;
 /// List of entries passes the room.
 pub const ROOM: u8 = 12;
-/// Weight of an entry passes 10^14.
-pub const WEIGHT: u8 = 13;
+// 13 is retired and not used again: no entry of an accepted case weighs more than all choices together.
 /// Lent memory too short.
 pub const MEMORY: u8 = 14;
 /// Choice with a wrong count or an index past the table.

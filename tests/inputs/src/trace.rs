@@ -1,10 +1,15 @@
-//! What a joint run has been through, seen from its lists minute by minute: how often held entries were split, and at which counts pieces were held.
+//! What a joint run has been through, seen from its lists minute by minute: how often held entries were split, at which counts pieces were held,
+//! and how much an entry weighed.
 
+use second::cover::weight;
 use second::joint::{Entry, JointRun, Kind};
 use second::plan::{Place, Plan};
 
 /// A held entry that was split: the generation of what is left of it, 1 after the first split.
 pub type Generation = usize;
+
+/// The most that an entry can weigh, 10^14: all choices of seven trains.
+pub const MOST_WEIGHT: u64 = 100_000_000_000_000;
 
 /// What was met in a run; a run that is refused has a trace up to there.
 #[derive(Clone, Debug, Default, PartialEq, Eq)]
@@ -18,6 +23,8 @@ pub struct Trace {
     /// Refusal 12 in a minute.
     pub refused_later: bool,
     pub longest_list: usize,
+    /// The most that an entry weighed, in the first list or after a minute.
+    pub heaviest: u64,
 }
 
 /// Traces a joint run to the last minute, or up to its refusal.
@@ -34,6 +41,7 @@ pub fn trace(plan: &Plan) -> Trace {
             return seen;
         }
     };
+    seen.heaviest = heaviest(plan, &joint.list);
     let mut generations = vec![0; joint.list.len()];
     for t in 0..=plan.head.last_minute {
         let before = joint.list.clone();
@@ -46,8 +54,15 @@ pub fn trace(plan: &Plan) -> Trace {
             seen.held[count] += 1;
         }
         seen.longest_list = seen.longest_list.max(joint.list.len());
+        seen.heaviest = seen.heaviest.max(heaviest(plan, &joint.list));
     }
     seen
+}
+
+/// The most that an entry of a list weighs.
+fn heaviest(plan: &Plan, list: &[Entry]) -> u64 {
+    let weights = list.iter().map(|entry| weight(plan, &entry.cover));
+    weights.max().unwrap_or(0)
 }
 
 /// The generation of each row: one more than that of the row it is left of if its cover has shrunk since, which is counted.

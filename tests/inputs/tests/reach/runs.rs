@@ -3,8 +3,11 @@
 use crate::counts::Counts;
 use inputs::drawn::MOST_MET;
 use inputs::questions::counted;
-use inputs::trace::trace;
+use inputs::trace::{trace, MOST_WEIGHT};
 use second::plan::Plan;
+
+/// The runs of seven trains in which one entry has all choices.
+const HEAVIEST: &str = "runs with an entry that weighs 10^14, the most that one can weigh";
 
 #[test]
 fn runs_split_held_entries_again_and_hold_pieces_at_every_count() {
@@ -23,6 +26,7 @@ fn runs_split_held_entries_again_and_hold_pieces_at_every_count() {
     counts.ask("refusal 12 in the first list");
     counts.ask("refusal 12 in the middle of a run");
     counts.ask("runs with a list of more than 500 entries");
+    counts.ask(HEAVIEST);
     counts.show();
 }
 
@@ -42,4 +46,5 @@ fn count_run(counts: &mut Counts, plan: &Plan) {
     );
     let long = usize::from(seen.longest_list > 500);
     counts.add("runs with a list of more than 500 entries", long);
+    counts.add(HEAVIEST, (seen.heaviest == MOST_WEIGHT).into());
 }
