@@ -1,4 +1,4 @@
-//! The independent second program: written from the specification page 01 alone, to be compared with the proved one.
+//! The independent second program: written and changed by the text of 01 and 02 alone, to be compared with the proved one.
 
 pub mod bodies;
 pub mod calls;

@@ -1,4 +1,4 @@
-//! The refusal numbers of 01, named once, and what an answer of refusal holds.
+//! The refusal numbers of 01 without 13, named once, and what an answer of refusal holds.
 
 /// A field's header or body runs past the end.
 pub const PAST_END: u8 = 1;

@@ -1,4 +1,4 @@
-//! Refusal 13, which is retired: no number of the table is 13, and what it was given for never comes, an entry that weighs more than 10^14.
+//! Refusal 13 is retired: no number of the table is 13, and what 01 had it for, an entry that weighs more than 10^14, never comes.
 
 use inputs::generator::{sound, Chance, Size};
 use inputs::questions::counted;

@@ -1,5 +1,5 @@
--- The numbers that refused calls answer. None is 0, which says that a call was answered, and none is 13, which is retired, for any files, arguments and memory. What
--- decides a call are its memory, the files, its arguments and the room, and each is refused with the number of a refusal. Assumes nothing.
+-- The numbers that refused calls answer: never 0, which says that a call was answered, and never 13, which is retired; for all files, arguments and memory.
+-- A call is refused for its memory, the files, its arguments or the room, each with a number of the table. Assumes nothing.
 use mathlib.Core.Path.{_≡_, sym, ap, _∙_, subst}
 use mathlib.Core.Bool.{Bool, true, false, cond}
 use mathlib.Core.List.{List, []}

@@ -1,4 +1,4 @@
--- Demands 2 and 3 about the definitions, for every case that the reading accepts from bytes. Each is in the words of the demand, and its proof cites
+-- Demands 2 and 3 about the definitions, and what an entry weighs at most, for every case that the reading accepts from bytes. Each is in the words of the demand, and its proof cites
 -- the crates below: `theory_sound` (what the reading makes true), `theory_simulation` (what a choice sees), `theory_weights` (sums over choices). Assumes nothing.
 use mathlib.Core.Path.{_≡_}
 use mathlib.Core.List.{List}
@@ -63,7 +63,7 @@ module _ (cs bk : List ℕ) (C : Case) (accepted : files cs bk ≡ answer C) whe
   pub choices-weigh : sum (weightOf C) (choices C) ≡ total C
   choices-weigh = weight-all C case-sound
 
-  -- ---- no entry weighs more than 10^14, which is why refusal 13 never came
+  -- ---- no entry weighs more than 10^14, so that there is nothing for refusal 13, which is retired
 
   -- after a minute, and of those that have arrived
   pub entries-light : (m : ℕ) → Every (Light C) (joint C m .list) × Every (λ v. Light C (v .who)) (joint C m .arrived)

@@ -1,4 +1,4 @@
--- Refusal 12 comes exactly when the first list, or the list after some minute, has more entries than the room, and no other refusal comes; of every case, sound or not.
+-- Refusal 12 is met exactly when the first list, or the list after some minute, has more entries than the room, and no other is met. This holds of every case.
 -- Serving an asker never shortens the list, so a minute's last list is its longest. Assumes nothing.
 use mathlib.Core.Path.{_≡_, refl, sym, ap, ap₂, _∙_}
 use mathlib.Core.Bool.{Bool, true, false, _||_, cond}

@@ -1,5 +1,5 @@
 -- What an entry weighs at most: its cover is a part of the whole, so it weighs at most all choices together, which is 100^n for n trains and so at most 10^14.
--- That is why refusal 13, for a heavier entry, never came, and could be retired (request 10 of 02). Takes `Sound` as given, and assumes nothing else.
+-- So there is nothing for refusal 13, which 01 had for a heavier entry, and which is retired (request 10 of 02). Takes `Sound` as given, and assumes nothing else.
 use mathlib.Core.Path.{_≡_}
 use mathlib.Core.Bool.{false}
 use mathlib.Core.List.{List}
