@@ -2,15 +2,15 @@
 -- from the list of stops or pairs to its indices, and the chain of tests is then the same. Assumes nothing.
 use mathlib.Core.Path.{_≡_, refl, ap, sym, _∙_}
 use mathlib.Core.Bool.{Bool, true, false, cond, not, _||_, or-false, true≢false}
-use mathlib.Core.List.{List, [], _∷_, map, map-map}
-use Prim.Native.Nat.{ℕ, suc, _+_, _-_, _*_, _%_, _<_}
+use mathlib.Core.List.{List, map, map-map}
+use Prim.Native.Nat.{ℕ, zero, suc, _+_, _-_, _*_, _%_, _<_}
 use native.Mathlib.Omega.{arith}
 use lib.Dec.{leb, ltb, eqb}
 use lib.ListN.{length, drop}
 use borrow.Author.Tests.{lt-ltb, le-ltb, ne-eqb, ltb-true, ltb-false, eqb-true, eqb-false}
 use Rattle.rules.specs.Lists.{any, span, below, has}
 use Rattle.rules.specs.Refusals.{verdict, firstOf}
-use Rattle.rules.specs.Files.{Contents, Stop, Pair, byte, word, headOf, trackOf, stopOf, trainOf, pairOf, tableOf, lengths, headRules, stationRules, unknown, leads, trackRules, anyStep, repeats, pathBroken, timesBroken, trainRules, rising, tableRules}
+use Rattle.rules.specs.Files.{Contents, Stop, Pair, byte, word, headOf, trackOf, stopOf, trainOf, pairOf, tableOf, kindOf, known, lengths, headRules, stationRules, unknown, leads, trackRules, anyStep, repeats, pathBroken, timesBroken, trainRules, rising, tableRules}
 use Rattle.file_fields.specs.At.{byte-drop, word-drop}
 use Rattle.file_bodies.specs.Bodies.{anyBelow, sumBelow, headVerdict, stationVerdict, joined, trackVerdict, stops, stop, arrival, departure, repeated, badStop, badTime, timesVerdict, trainVerdict, pairs, delay, weight, badPair, pairsVerdict, tableVerdict, badLength}
 use Rattle.file_bodies.specs.Search.{any-here, any-same, any-or, sum-same, any-below, sum-below, afterFirst, step-below, repeats-below, rising-below, lastOf-below}
@@ -263,14 +263,13 @@ table-length n = go (ltb n 18) refl
         let h = ltb-false n 18 e in
         rw (ne-eqb n 3 (λ q. omega arith), ne-eqb n 5 (λ q. omega arith), ne-eqb n 7 (λ q. omega arith), ne-eqb n 9 (λ q. omega arith), ne-eqb n 11 (λ q. omega arith), ne-eqb n 13 (λ q. omega arith), ne-eqb n 15 (λ q. omega arith), ne-eqb n 17 (λ q. omega arith), le-ltb n 3 (omega arith), lt-ltb 17 n (omega arith))
 
-pub length-agrees : (tag n : ℕ) → not (has (lengths tag) n) ≡ badLength tag n
-unfolding lengths badLength
-length-agrees tag n = go (eqb tag 1) (eqb tag 2) (eqb tag 3) (eqb tag 4)
-  where
-    go : (p q r s : Bool) → not (has (cond p (5 ∷ []) (cond q (1 ∷ []) (cond r (3 ∷ []) (cond s (map (λ k. 2 + 5 * k) (span 7 2)) (map (λ k. 1 + 2 * k) (span 8 1)))))) n)
-        ≡ cond p (not (eqb n 5)) (cond q (not (eqb n 1)) (cond r (not (eqb n 3)) (cond s (cond (ltb n 12) true (cond (ltb 42 n) true (not (eqb (n % 5) 2)))) (cond (ltb n 3) true (cond (ltb 17 n) true (not (eqb (n % 2) 1)))))))
-    go true q r s = ap not (or-false (eqb n 5))
-    go false true r s = ap not (or-false (eqb n 1))
-    go false false true s = ap not (or-false (eqb n 3))
-    go false false false true = train-length n
-    go false false false false = table-length n
+-- of a tag that there is
+pub length-agrees : (tag n : ℕ) → known (kindOf tag) ≡ true → not (has (lengths (kindOf tag)) n) ≡ badLength tag n
+unfolding known kindOf lengths badLength
+length-agrees zero n h = absurd (true≢false (sym h))
+length-agrees (suc zero) n h = ap not (or-false (eqb n 5))
+length-agrees (suc (suc zero)) n h = ap not (or-false (eqb n 1))
+length-agrees (suc (suc (suc zero))) n h = ap not (or-false (eqb n 3))
+length-agrees (suc (suc (suc (suc zero)))) n h = train-length n
+length-agrees (suc (suc (suc (suc (suc zero))))) n h = table-length n
+length-agrees (suc (suc (suc (suc (suc (suc t)))))) n h = absurd (true≢false (sym h))

@@ -10,7 +10,7 @@ use lib.Seq.{getD-take, getD-drop, drop-drop}
 use lib.Dec.{leb, ltb}
 use borrow.Author.Tests.{leb-true, lt-ltb, le-ltb, le-leb, lt-leb}
 use Rattle.rules.specs.Refusals.{Result, then, judged}
-use Rattle.rules.specs.Files.{File, spot, Contents, byte, word, size, body, fieldRules, more, readField}
+use Rattle.rules.specs.Files.{File, spot, Contents, kindOf, byte, word, kind, size, body, fieldRules, more, readField}
 use Rattle.rules.specs.Viewer.{viewed}
 use Rattle.rules.specs.Viewer.View.{field, ended, overruns}
 use Rattle.file_fields.specs.Fields.{past, whole, bodyAt}
@@ -54,14 +54,14 @@ module _ (l : List ℕ) (i : ℕ) where
 
   -- the reading goes on past it
   pub read-here : (go : ℕ → List ℕ → Contents → Result Contents) (f : File) (c : Contents) → i < length l
-      → readField go f i (drop i l) c ≡ then (judged (fieldRules f c i (drop i l)) (spot f i) (more c i (byte l i) bodyHere)) (go (past l i) (drop (past l i) l))
+      → readField go f i (drop i l) c ≡ then (judged (fieldRules f c i (drop i l)) (spot f i) (more c i (kindOf (byte l i)) bodyHere)) (go (past l i) (drop (past l i) l))
   unfolding readField
   read-here go f c h =
       front (drop i l) (omega (arith, length-drop i l))
       ∙ rw (drop-drop (3 + size (drop i l)) i l, past-here, tag-here, body-here)
     where
       front : (m : List ℕ) → 0 < length m
-          → readField go f i m c ≡ then (judged (fieldRules f c i m) (spot f i) (more c i (byte m 0) (body m))) (go (i + (3 + size m)) (drop (3 + size m) m))
+          → readField go f i m c ≡ then (judged (fieldRules f c i m) (spot f i) (more c i (kind m) (body m))) (go (i + (3 + size m)) (drop (3 + size m) m))
       front [] h = absurd (omega arith)
       front (b ∷ m) h = refl
 

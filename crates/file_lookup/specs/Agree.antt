@@ -11,11 +11,13 @@ use borrow.Author.Tests.{lt-ltb, le-ltb, le-leb, lt-leb, eqb-true, ne-eqb}
 use Rattle.rules.specs.Lists.{one, each, keep}
 use Rattle.rules.specs.Refusals.{Result, refuse}
 use Rattle.rules.specs.Refusals.Result.{answer}
-use Rattle.rules.specs.Files.{File, spot, Contents, Case, Table, Train, byte, word, tableOf, trainOf, more, read, tablesOf, lacking, noneLacking}
+use Rattle.rules.specs.Files.{File, spot, Contents, Case, Table, Train, kindOf, byte, word, tableOf, trainOf, more, read, tablesOf, lacking, noneLacking}
 use Rattle.rules.specs.Files.File.{case, book}
+use Rattle.rules.specs.Files.Kind.{train, table}
 use Rattle.file_bodies.specs.Bodies.{badLength}
 use Rattle.theory_lists.specs.Each.{each-append, map-append}
 use Rattle.theory_lists.specs.Every.{Every, every-keep}
+use Rattle.theory_sound.specs.Kinds.{is-tag}
 use Rattle.file_fields.specs.At.{byte-part, whole-none, body-of}
 use Rattle.file_fields.specs.Fields.{past, whole, bodyAt, placesFrom, places}
 use Rattle.file_reader.specs.Laws.{table-length, train-length}
@@ -71,9 +73,12 @@ body-byte l i k h p = ap (λ (b : List ℕ). byte b k) (body-of l i h) ∙ byte-
 
 module _ (f : File) (l : List ℕ) (t : ℕ) where
   type-step : (c : Contents) (i : ℕ) → Stands l i
-      → keep (λ (d : Table). eqb (d .type) t) (more c i (byte l i) (bodyAt l i) .tables) ≡ keep (λ (d : Table). eqb (d .type) t) (c .tables) ++ one (isTable l t i) (tableOf (bodyAt l i))
+      → keep (λ (d : Table). eqb (d .type) t) (more c i (kindOf (byte l i)) (bodyAt l i) .tables) ≡ keep (λ (d : Table). eqb (d .type) t) (c .tables) ++ one (isTable l t i) (tableOf (bodyAt l i))
   unfolding more isTable tableOf
-  type-step c i s = each-append (λ (d : Table). one (eqb (d .type) t) d) (c .tables) (one (eqb (byte l i) 5) (tableOf (bodyAt l i))) ∙ ap (λ (x : List Table). keep (λ (d : Table). eqb (d .type) t) (c .tables) ++ x) (go (eqb (byte l i) 5) refl)
+  type-step c i s =
+      rw (is-tag table (byte l i) (omega arith))
+      (each-append (λ (d : Table). one (eqb (d .type) t) d) (c .tables) (one (eqb (byte l i) 5) (tableOf (bodyAt l i)))
+      ∙ ap (λ (x : List Table). keep (λ (d : Table). eqb (d .type) t) (c .tables) ++ x) (go (eqb (byte l i) 5) refl))
     where
       go : (b : Bool) → eqb (byte l i) 5 ≡ b → keep (λ (d : Table). eqb (d .type) t) (one b (tableOf (bodyAt l i))) ≡ one (cond b (eqb (byte l (i + 3)) t) false) (tableOf (bodyAt l i))
       go true e =
@@ -96,9 +101,12 @@ type-here cs i s p =
 
 module _ {A : Type 0} (cs : List ℕ) (make : ℕ → A) where
   train-step : (d : Contents) (i : ℕ) → Stands cs i
-      → map (λ (a : Train). make (a .type)) (more d i (byte cs i) (bodyAt cs i) .trains) ≡ map (λ (a : Train). make (a .type)) (d .trains) ++ one (eqb (byte cs i) 4) (make (byte cs (i + 4)))
+      → map (λ (a : Train). make (a .type)) (more d i (kindOf (byte cs i)) (bodyAt cs i) .trains) ≡ map (λ (a : Train). make (a .type)) (d .trains) ++ one (eqb (byte cs i) 4) (make (byte cs (i + 4)))
   unfolding more trainOf
-  train-step d i s = map-append (λ (a : Train). make (a .type)) (d .trains) (one (eqb (byte cs i) 4) (trainOf i (bodyAt cs i))) ∙ ap (λ (x : List A). map (λ (a : Train). make (a .type)) (d .trains) ++ x) (go (eqb (byte cs i) 4) refl)
+  train-step d i s =
+      rw (is-tag train (byte cs i) (omega arith))
+      (map-append (λ (a : Train). make (a .type)) (d .trains) (one (eqb (byte cs i) 4) (trainOf i (bodyAt cs i)))
+      ∙ ap (λ (x : List A). map (λ (a : Train). make (a .type)) (d .trains) ++ x) (go (eqb (byte cs i) 4) refl))
     where
       go : (b : Bool) → eqb (byte cs i) 4 ≡ b → map (λ (a : Train). make (a .type)) (one b (trainOf i (bodyAt cs i))) ≡ one b (make (byte cs (i + 4)))
       go true e = ap (λ (j : ℕ). make j ∷ []) (type-here cs i s (eqb-true (byte cs i) 4 e))
@@ -176,12 +184,13 @@ module _ (cs bk : List ℕ) (c k : Contents) (hc : read case cs ≡ answer c) (h
   abbrev placesLacking : Contents → List ℕ
   placesLacking d = map (λ (a : Train). a .place) (keep (λ (a : Train). eqb (length (tablesOf c k (a .type))) 0) (d .trains))
 
-  lacking-step : (d : Contents) (i : ℕ) → Stands cs i → placesLacking (more d i (byte cs i) (bodyAt cs i)) ≡ placesLacking d ++ one (lacks cs bk i) i
+  lacking-step : (d : Contents) (i : ℕ) → Stands cs i → placesLacking (more d i (kindOf (byte cs i)) (bodyAt cs i)) ≡ placesLacking d ++ one (lacks cs bk i) i
   unfolding more trainOf lacks
   lacking-step d i s =
-      ap (map (λ (a : Train). a .place)) (each-append (λ (a : Train). one (eqb (length (tablesOf c k (a .type))) 0) a) (d .trains) (one (eqb (byte cs i) 4) (trainOf i (bodyAt cs i))))
+      rw (is-tag train (byte cs i) (omega arith))
+      (ap (map (λ (a : Train). a .place)) (each-append (λ (a : Train). one (eqb (length (tablesOf c k (a .type))) 0) a) (d .trains) (one (eqb (byte cs i) 4) (trainOf i (bodyAt cs i))))
       ∙ map-append (λ (a : Train). a .place) (keep (λ (a : Train). eqb (length (tablesOf c k (a .type))) 0) (d .trains)) _
-      ∙ ap (λ (x : List ℕ). placesLacking d ++ x) (go (eqb (byte cs i) 4) refl)
+      ∙ ap (λ (x : List ℕ). placesLacking d ++ x) (go (eqb (byte cs i) 4) refl))
     where
       placed : (b : Bool) → map (λ (a : Train). a .place) (one b (trainOf i (bodyAt cs i)) ++ []) ≡ one b i
       placed true = refl

@@ -83,6 +83,6 @@ decoded cs bk C h = rw (n₁, n₂, n₃) made
       trains = ts ∙ w .trains;
       pairs = ap (λ (D : Case). D .tables) (x .assembled) ∙ ap (map (λ t. firstPairs (tablesOf c k (t .type)))) (w .trains)
           ∙ gather-map (λ t. firstPairs (tablesOf c k (t .type))) (trainIn cs) _ (past cs) found (w .n) o;
-      head = subst (HeadAt cs) (sym (ap (λ (D : Case). D .head) (x .assembled))) (w .head (headed (c .tag) (w .no-trains)));
+      head = subst (HeadAt cs) (sym (ap (λ (D : Case). D .head) (x .assembled))) (w .head (headed (c .rank) (w .no-trains)));
       sound = y;
     }

@@ -12,8 +12,9 @@ use lib.Dec.{leb, eqb}
 use borrow.Author.Tests.{eqb-false, leb-true}
 use Rattle.rules.specs.Lists.{has, span}
 use Rattle.rules.specs.Refusals.Result.{answer}
-use Rattle.rules.specs.Files.{Head, Track, Stop, Train, Contents, byte, word, headOf, trackOf, stopOf, trainOf, known, inPlace, lengths, size, body, more, empty, read}
+use Rattle.rules.specs.Files.{Head, Track, Stop, Train, Contents, Kind, byte, word, headOf, trackOf, stopOf, trainOf, rank, is, kind, known, inPlace, lengths, size, body, more, empty, read}
 use Rattle.rules.specs.Files.File.{case}
+use Rattle.rules.specs.Files.Kind.{head, station, track, train, table, noField}
 use Rattle.theory_lists.specs.Every.{has-every}
 use Rattle.theory_sound.specs.Verdicts.{Field, field-accepted, withField}
 use Rattle.theory_sound.specs.Kept.{head-first}
@@ -101,11 +102,11 @@ pub record Laid (w : List ℕ) (at : ℕ) (c : Contents) : Type 0 where
   pub stations : c .stations ≡ gather (stationIn w) (λ i. i + 4) s 8
   pub tracks : c .tracks ≡ tracksFrom w r (trackPlace s)
   pub trains : c .trains ≡ gather (trainIn w) (past w) n (trainPlace s r)
-  pub head : 1 ≤ c .tag → HeadAt w (c .head)
-  pub start : c .tag ≡ 0 → (at ≡ 0) × (s ≡ 0)
-  pub no-tracks : c .tag ≤ 2 → r ≡ 0
-  pub no-trains : c .tag ≤ 3 → n ≡ 0
-  pub here : 1 ≤ c .tag → c .tag ≤ 4 → at ≡ onward (past w) n (trainPlace s r)
+  pub head : 1 ≤ c .rank → HeadAt w (c .head)
+  pub start : c .rank ≡ 0 → (at ≡ 0) × (s ≡ 0)
+  pub no-tracks : c .rank ≤ 2 → r ≡ 0
+  pub no-trains : c .rank ≤ 3 → n ≡ 0
+  pub here : 1 ≤ c .rank → c .rank ≤ 4 → at ≡ onward (past w) n (trainPlace s r)
 
 laid-empty : (w : List ℕ) → Laid w 0 empty
 laid-empty w = record {
@@ -122,16 +123,16 @@ laid-empty w = record {
   here = λ h k. absurd (not-suc-le-zero h);
 }
 
--- a field that is no head comes after one, and its tag does not fall
-rises : (c : Contents) (tag : ℕ) → eqb tag 1 ≡ false → inPlace case c tag ≡ true → (1 ≤ c .tag) × (c .tag ≤ tag)
+-- a field that is no head comes after one, and tags do not fall
+rises : (c : Contents) (k : Kind) → is head k ≡ false → inPlace case c k ≡ true → (1 ≤ c .rank) × (c .rank ≤ rank k)
 unfolding inPlace
-rises c tag e h = go (eqb (c .tag) 0) refl (eqb tag 1) e (leb (c .tag) tag) refl h
+rises c k e h = go (eqb (c .rank) 0) refl (is head k) e (leb (c .rank) (rank k)) refl h
   where
-    go : (a : Bool) → eqb (c .tag) 0 ≡ a → (b : Bool) → b ≡ false → (d : Bool) → leb (c .tag) tag ≡ d → cond a b (not b && d) ≡ true → (1 ≤ c .tag) × (c .tag ≤ tag)
+    go : (a : Bool) → eqb (c .rank) 0 ≡ a → (b : Bool) → b ≡ false → (d : Bool) → leb (c .rank) (rank k) ≡ d → cond a b (not b && d) ≡ true → (1 ≤ c .rank) × (c .rank ≤ rank k)
     go true p b q d r h = absurd (false≢true (sym q ∙ h))
     go false p true q d r h = absurd (false≢true (sym q))
     go false p false q false r h = absurd (false≢true h)
-    go false p false q true r h = let z = eqb-false (c .tag) 0 p in (some (c .tag) z, leb-true (c .tag) tag r)
+    go false p false q true r h = let z = eqb-false (c .rank) 0 p in (some (c .rank) z, leb-true (c .rank) (rank k) r)
       where
         some : (m : ℕ) → (m ≡ 0 → ⊥) → 1 ≤ m
         some zero z = absurd (z refl)
@@ -144,8 +145,8 @@ module _ (w : List ℕ) (c : Contents) (at : ℕ) (d : Field case c at (drop at 
   abbrev b : List ℕ
   b = body (drop at w)
 
-  abbrev Step : ℕ → Type 0
-  Step t = inPlace case c t ≡ true → has (lengths t) (size l) ≡ true → Laid w (past w at) (more c at t b)
+  abbrev Step : Kind → Type 0
+  Step k = inPlace case c k ≡ true → has (lengths k) (size l) ≡ true → Laid w (past w at) (more c at k b)
 
   z : size l ≡ word w (at + 1)
   z = size-here w at
@@ -153,7 +154,7 @@ module _ (w : List ℕ) (c : Contents) (at : ℕ) (d : Field case c at (drop at 
   abbrev none : {A : Type 0} (a : List A) → a ++ [] ≡ a
   none a = append-nil a
 
-  head-step : Step 1
+  head-step : Step head
   unfolding more headOf lengths
   head-step i k =
       let t = head-first case c i in
@@ -179,10 +180,10 @@ module _ (w : List ℕ) (c : Contents) (at : ℕ) (d : Field case c at (drop at 
         here = λ h m. omega (arith, e .0, z);
       }
 
-  station-step : Step 2
+  station-step : Step station
   unfolding more lengths
   station-step i k =
-      let t = rises c 2 refl i in
+      let t = rises c station refl i in
       let q = has-every (λ m. m ≡ 1) (1 ∷ []) (size l) (refl, tt) k in
       let r = p .no-tracks (t .1) in
       let n = p .no-trains (omega arith) in
@@ -202,10 +203,10 @@ module _ (w : List ℕ) (c : Contents) (at : ℕ) (d : Field case c at (drop at 
         here = λ h m. omega (arith, z);
       }
 
-  track-step : Step 3
+  track-step : Step track
   unfolding more lengths
   track-step i k =
-      let t = rises c 3 refl i in
+      let t = rises c track refl i in
       let q = has-every (λ m. m ≡ 3) (3 ∷ []) (size l) (refl, tt) k in
       let n = p .no-trains (t .1) in
       let a : at ≡ 8 + 4 * p .s + 6 * p .r = p .here (t .0) (omega arith) ∙ ap (λ (m : ℕ). onward (past w) m (trainPlace (p .s) (p .r))) n in
@@ -225,11 +226,11 @@ module _ (w : List ℕ) (c : Contents) (at : ℕ) (d : Field case c at (drop at 
         here = λ h m. omega (arith, z);
       }
 
-  train-step : Step 4
+  train-step : Step train
   unfolding more lengths
   train-step i k =
-      let t = rises c 4 refl i in
-      let q = has-every (λ m. 2 ≤ m) (lengths 4) (size l) (omega arith) k in
+      let t = rises c train refl i in
+      let q = has-every (λ m. 2 ≤ m) (lengths train) (size l) (omega arith) k in
       let a = p .here (t .0) (t .1) in
       record {
         s = p .s;
@@ -246,10 +247,10 @@ module _ (w : List ℕ) (c : Contents) (at : ℕ) (d : Field case c at (drop at 
         here = λ h m. ap (past w) a ∙ sym (onward-more (past w) (past w) (p .n) (trainPlace (p .s) (p .r)));
       }
 
-  table-step : Step 5
+  table-step : Step table
   unfolding more lengths
   table-step i k =
-      let t = rises c 5 refl i in
+      let t = rises c table refl i in
       record {
         s = p .s;
         r = p .r;
@@ -264,10 +265,17 @@ module _ (w : List ℕ) (c : Contents) (at : ℕ) (d : Field case c at (drop at 
         here = λ h m. absurd (omega arith);
       }
 
-  laid-step : Laid w (past w at) (withField c at l)
+  step : (k : Kind) → known k ≡ true → Step k
   unfolding known
-  laid-step =
-      has-every Step (1 ∷ 2 ∷ 3 ∷ 4 ∷ 5 ∷ []) (byte l 0) (head-step, (station-step, (track-step, (train-step, (table-step, tt))))) (d .a-tag) (d .in-place) (d .a-length)
+  step noField a = absurd (false≢true a)
+  step head a = head-step
+  step station a = station-step
+  step track a = track-step
+  step train a = train-step
+  step table a = table-step
+
+  laid-step : Laid w (past w at) (withField c at l)
+  laid-step = step (kind l) (d .a-tag) (d .in-place) (d .a-length)
 
 -- of an accepted case
 pub case-laid : (w : List ℕ) (c : Contents) → read case w ≡ answer c → Laid w (length w) c

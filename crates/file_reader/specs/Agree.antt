@@ -9,7 +9,7 @@ use lib.ListN.{length, drop, drop-of-length-le}
 use lib.Dec.{leb, eqb}
 use borrow.Author.Tests.{leb-true, leb-false}
 use Rattle.rules.specs.Refusals.{Result, verdict, firstOf, then, answerUnless}
-use Rattle.rules.specs.Files.{File, Contents, spot, more, endRules, readField, readFields, empty, read}
+use Rattle.rules.specs.Files.{File, Contents, kindOf, spot, more, endRules, readField, readFields, empty, read}
 use Rattle.rules.specs.Files.File.{case, book}
 use Rattle.file_fields.specs.Fields.{past}
 use Rattle.file_fields.specs.At.{read-here}
@@ -33,8 +33,8 @@ counts-same f l s c h = rw (h .stations, h .tracks, h .trains, h .tables)
 end-agrees : (f : File) (l : List ℕ) (s : Seen) (c : Contents) → Holds f l s c → atEnd (isBook f) (s .at) s ≡ readingOf (answerUnless (verdict (endRules f c)) (spot f (s .at)) c)
 unfolding atEnd endRules
 end-agrees case l s c h =
-    let z : eqb (s .heads) 0 ≡ eqb (c .tag) 0 = sym (same-zero (s .tag) (s .heads) (h .of-file .unheaded) (h .of-file .placed .headed)) ∙ ap (λ (k : ℕ). eqb k 0) (sym (h .same-tag)) in
-    rw (z, ← h .stations, ← h .tracks, ← h .trains, ← h .tables) (go (eqb (c .tag) 0) (eqb (length (c .stations)) 0) (eqb (length (c .trains)) 0))
+    let z : eqb (s .heads) 0 ≡ eqb (c .rank) 0 = sym (same-zero (s .tag) (s .heads) (h .of-file .unheaded) (h .of-file .placed .headed)) ∙ ap (λ (k : ℕ). eqb k 0) (sym (h .same-rank)) in
+    rw (z, ← h .stations, ← h .tracks, ← h .trains, ← h .tables) (go (eqb (c .rank) 0) (eqb (length (c .stations)) 0) (eqb (length (c .trains)) 0))
   where
     go : (p q r : Bool) → cond p (Refused 5 (s .at)) (cond q (Refused 5 (s .at)) (cond r (Refused 5 (s .at)) (Accepted (countsOf c)))) ≡ readingOf (answerUnless (firstOf ((p || q) || r) 5 0) (spot case (s .at)) c)
     go true q r = refl
@@ -48,7 +48,7 @@ end-agrees book l s c h = ap Accepted (counts-same book l s c h)
 -- the reading of a field goes on past it, by the state's verdict
 read-seen : (go : ℕ → List ℕ → Contents → Result Contents) (f : File) (l : List ℕ) (s : Seen) (c : Contents) → Holds f l s c → Within l s → s .at < length l
     → readField go f (s .at) (drop (s .at) l) c
-    ≡ then (answerUnless (fieldVerdict (isBook f) l s) (spot f (s .at)) (more c (s .at) (tagOf l s) (bodyOf l s))) (go (past l (s .at)) (drop (past l (s .at)) l))
+    ≡ then (answerUnless (fieldVerdict (isBook f) l s) (spot f (s .at)) (more c (s .at) (kindOf (tagOf l s)) (bodyOf l s))) (go (past l (s .at)) (drop (past l (s .at)) l))
 read-seen go f l s c h w k = read-here l (s .at) go f c k ∙ rw (field-agrees f l s c h w)
 
 agrees : (f : File) (l : List ℕ) (n : ℕ) (s : Seen) (c : Contents) → Holds f l s c → Within l s → length l < s .at + n
@@ -60,8 +60,8 @@ agrees f l (suc n) s c h w k = go (leb (length l) (s .at)) refl (λ t d. agrees 
     rest : (v : ℕ) → fieldVerdict (isBook f) l s ≡ v → s .at < length l
         → ((t : Seen) (d : Contents) → Holds f l t d → Within l t → length l < t .at + n → readFrom n (isBook f) l t ≡ readingOf (readFields n f (t .at) (drop (t .at) l) d))
         → turn (readFrom n (isBook f) l) (s .at) (judged v (next l s))
-        ≡ readingOf (then (answerUnless v (spot f (s .at)) (more c (s .at) (tagOf l s) (bodyOf l s))) (readFields n f (past l (s .at)) (drop (past l (s .at)) l)))
-    rest zero e p ih = ih (next l s) (more c (s .at) (tagOf l s) (bodyOf l s)) (holds-next f l s c h w e) (within-next l (isBook f) s w e) (omega arith)
+        ≡ readingOf (then (answerUnless v (spot f (s .at)) (more c (s .at) (kindOf (tagOf l s)) (bodyOf l s))) (readFields n f (past l (s .at)) (drop (past l (s .at)) l)))
+    rest zero e p ih = ih (next l s) (more c (s .at) (kindOf (tagOf l s)) (bodyOf l s)) (holds-next f l s c h w e) (within-next l (isBook f) s w e) (omega arith)
     rest (suc v) e p ih = refl
 
     go : (b : Bool) → leb (length l) (s .at) ≡ b
@@ -78,7 +78,7 @@ agrees f l (suc n) s c h w k = go (leb (length l) (s .at)) refl (λ t d. agrees 
 -- nothing read yet
 pub holds-start : (f : File) (l : List ℕ) → Holds f l start empty
 unfolding joined
-holds-start f l = record { same-tag = refl; stations = refl; tracks = refl; trains = refl; tables = refl; types = λ x. refl; of-file = go f }
+holds-start f l = record { same-rank = refl; stations = refl; tracks = refl; trains = refl; tables = refl; types = λ x. refl; of-file = go f }
   where
     go : (f : File) → OfFile f l start empty
     go case = record { placed = placed-start; unheaded = λ z. refl; untouched = λ z. refl; reached = omega arith; head-stands = λ z. absurd (z refl); stations-stand = λ j k. absurd (omega arith); tracks-stand = λ j k. absurd (omega arith); tracks-lead = λ from to. any-none _ }

@@ -10,8 +10,10 @@ use lib.Dec.{eqb}
 use Rattle.rules.specs.Lists.{one, each}
 use Rattle.rules.specs.Refusals.{verdict}
 use Rattle.rules.specs.Refusals.Result.{answer}
-use Rattle.rules.specs.Files.{File, Contents, byte, word, trainOf, fieldRules, more, empty, read}
+use Rattle.rules.specs.Files.{File, Contents, kindOf, byte, word, trainOf, fieldRules, more, empty, read}
+use Rattle.rules.specs.Files.Kind.{train}
 use Rattle.file_bodies.specs.Bodies.{badLength}
+use Rattle.theory_sound.specs.Kinds.{is-tag}
 use Rattle.theory_sound.specs.Verdicts.{field-accepted, withField}
 use Rattle.file_fields.specs.Fields.{past, bodyAt, placesFrom, places}
 use Rattle.file_fields.specs.At.{tag-here, size-here, body-here, whole-of, whole-none, body-of}
@@ -30,11 +32,11 @@ module _ (f : File) (l : List ℕ) where
       let a = field-accepted f c i (drop i l) h in
       record {
         inside = omega (arith, length-drop i l, size-here l i, a .whole);
-        possible = sym (length-agrees (byte l i) (word l (i + 1))) ∙ ap not (rw (tag-here l i, size-here l i) at (a .a-length));
+        possible = sym (length-agrees (byte l i) (word l (i + 1)) (rw (tag-here l i) at (a .a-tag))) ∙ ap not (rw (tag-here l i, size-here l i) at (a .a-length));
       }
 
   module _ {A : Type 0} (of : Contents → List A) (test : ℕ → Bool) (make : ℕ → A)
-      (step : (c : Contents) (i : ℕ) → Stands l i → of (more c i (byte l i) (bodyAt l i)) ≡ of c ++ one (test i) (make i)) where
+      (step : (c : Contents) (i : ℕ) → Stands l i → of (more c i (kindOf (byte l i)) (bodyAt l i)) ≡ of c ++ one (test i) (make i)) where
     -- what is gathered from the places ahead stands behind what was read
     abbrev Gathering : ℕ → Contents → Type 0
     Gathering i c = Walked l i (λ n. each (λ j. one (test j) (make j)) (places l) ≡ of c ++ each (λ j. one (test j) (make j)) (placesFrom n l i))
@@ -43,7 +45,7 @@ module _ (f : File) (l : List ℕ) where
     unfolding placesFrom
     gathering-more c i v p =
         let s = stands c i v in
-        let b : withField c i (drop i l) ≡ more c i (byte l i) (bodyAt l i) = rw (tag-here l i, body-here l i, body-of l i (s .inside)) in
+        let b : withField c i (drop i l) ≡ more c i (kindOf (byte l i)) (bodyAt l i) = rw (tag-here l i, body-here l i, body-of l i (s .inside)) in
         walked-next _ p (past l i) (omega arith) (s .inside) (λ n q.
         let ahead = each (λ j. one (test j) (make j)) (placesFrom n l (past l i)) in
         (rw (whole-of l i (s .inside)) at q) ∙ sym (append-assoc (of c) (one (test i) (make i)) ahead) ∙ ap (λ (x : List A). x ++ ahead) (sym (ap of b ∙ step c i s)))
@@ -58,4 +60,4 @@ module _ (f : File) (l : List ℕ) where
   module _ (d : Contents) (h : read f l ≡ answer d) where
     pub trains-decoded : d .trains ≡ each (λ i. one (eqb (byte l i) 4) (trainOf i (bodyAt l i))) (places l)
     unfolding more
-    trains-decoded = gathered (λ c. c .trains) (λ i. eqb (byte l i) 4) (λ i. trainOf i (bodyAt l i)) (λ c i s. refl) d h refl
+    trains-decoded = gathered (λ c. c .trains) (λ i. eqb (byte l i) 4) (λ i. trainOf i (bodyAt l i)) (λ c i s. rw (is-tag train (byte l i) (omega arith))) d h refl

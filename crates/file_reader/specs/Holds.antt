@@ -8,12 +8,13 @@ use native.Mathlib.Omega.{arith}
 use lib.ListN.{length, getD, take, drop, length-drop}
 use lib.Seq.{getD-take, drop-drop}
 use lib.Dec.{leb, ltb, eqb}
-use borrow.Author.Tests.{lt-ltb, le-ltb, eq-eqb, ne-eqb, ltb-true, ltb-false, leb-true, leb-false, eqb-true, eqb-false}
+use borrow.Author.Tests.{lt-ltb, le-ltb, eq-eqb, ne-eqb, ltb-true, ltb-false, leb-true, leb-false, eqb-true, eqb-false, not-false}
 use Rattle.rules.specs.Lists.{any}
 use Rattle.rules.specs.Refusals.{verdict, firstOf}
-use Rattle.rules.specs.Files.{File, Head, Track, Contents, headOf, trackOf, byte, word, known, inPlace, most, howMany, leads, bodyRules, fieldRules}
+use Rattle.rules.specs.Files.{File, Head, Track, Contents, kindOf, headOf, trackOf, byte, word, known, inPlace, most, howMany, leads, bodyRules, fieldRules}
 use Rattle.rules.specs.Files.File.{case, book}
 use Rattle.theory_lists.specs.Tests.{or-false-first, or-false-second}
+use Rattle.theory_sound.specs.Kinds.{rank-tag}
 use Rattle.file_fields.specs.At.{word-drop, length-part, tag-here, size-here}
 use Rattle.file_bodies.specs.Bodies.{ends, joined, badLength}
 use Rattle.file_bodies.specs.Search.{any-same}
@@ -48,7 +49,7 @@ OfFile book l s c = Unit {0}
 
 -- the state s of the reading of l has seen the contents c
 pub record Holds (f : File) (l : List ℕ) (s : Seen) (c : Contents) : Type 0 where
-  pub same-tag : c .tag ≡ s .tag
+  pub same-rank : c .rank ≡ s .tag
   pub stations : length (c .stations) ≡ s .stations
   pub tracks : length (c .tracks) ≡ s .tracks
   pub trains : length (c .trains) ≡ s .trains
@@ -58,8 +59,8 @@ pub record Holds (f : File) (l : List ℕ) (s : Seen) (c : Contents) : Type 0 wh
 
 -- ---- tests of the frame
 
-known-agrees : (tag : ℕ) → not (known tag) ≡ eqb tag 0 || ltb 5 tag
-unfolding known
+known-agrees : (tag : ℕ) → not (known (kindOf tag)) ≡ eqb tag 0 || ltb 5 tag
+unfolding known kindOf
 known-agrees zero = refl
 known-agrees (suc zero) = refl
 known-agrees (suc (suc zero)) = refl
@@ -68,7 +69,7 @@ known-agrees (suc (suc (suc (suc zero)))) = refl
 known-agrees (suc (suc (suc (suc (suc zero))))) = refl
 known-agrees (suc (suc (suc (suc (suc (suc n)))))) =
     let t : ℕ = suc (suc (suc (suc (suc (suc n))))) in
-    rw (ne-eqb t 1 (λ q. omega arith), ne-eqb t 2 (λ q. omega arith), ne-eqb t 3 (λ q. omega arith), ne-eqb t 4 (λ q. omega arith), ne-eqb t 5 (λ q. omega arith), ne-eqb t 0 (λ q. omega arith), lt-ltb 5 t (omega arith))
+    rw (ne-eqb t 0 (λ q. omega arith), lt-ltb 5 t (omega arith))
 
 not-least : (a b : ℕ) → not (leb a b) ≡ ltb b a
 not-least a b = go (leb a b) refl
@@ -84,22 +85,22 @@ same-zero a b h k = go (eqb b 0) refl
     go true e = eq-eqb a 0 (k (eqb-true b 0 e))
     go false e = ne-eqb a 0 (λ q. eqb-false b 0 e (h q))
 
-place-agrees : (f : File) (l : List ℕ) (s : Seen) (c : Contents) → Holds f l s c → (tag : ℕ) → not (inPlace f c tag) ≡ outOfPlace (isBook f) s tag
+place-agrees : (f : File) (l : List ℕ) (s : Seen) (c : Contents) → Holds f l s c → (tag : ℕ) → tag ≤ 5 → not (inPlace f c (kindOf tag)) ≡ outOfPlace (isBook f) s tag
 unfolding inPlace outOfPlace
-place-agrees case l s c h tag =
+place-agrees case l s c h tag t =
     let z : eqb (s .tag) 0 ≡ eqb (s .heads) 0 = same-zero (s .tag) (s .heads) (h .of-file .unheaded) (h .of-file .placed .headed) in
-    rw (h .same-tag, z, ← not-least (s .tag) tag) (go (eqb (s .heads) 0) (eqb tag 1) (leb (s .tag) tag))
+    rw (h .same-rank, z, rank-tag tag t, ← not-least (s .tag) tag) (go (eqb (s .heads) 0) (eqb tag 1) (leb (s .tag) tag))
   where
     go : (z t y : Bool) → not (cond z t (not t && y)) ≡ cond z (not t) (cond t true (not y))
     go true t y = refl
     go false true y = refl
     go false false y = refl
-place-agrees book l s c h tag = refl
+place-agrees book l s c h tag t = rw (rank-tag tag t)
 
-count-agrees : (f : File) (l : List ℕ) (s : Seen) (c : Contents) → Holds f l s c → (tag : ℕ) → 1 ≤ tag → tag ≤ 5 → leb (most tag) (howMany c tag) ≡ tooMany s tag
-unfolding most howMany tooMany
+count-agrees : (f : File) (l : List ℕ) (s : Seen) (c : Contents) → Holds f l s c → (tag : ℕ) → 1 ≤ tag → tag ≤ 5 → leb (most (kindOf tag)) (howMany c (kindOf tag)) ≡ tooMany s tag
+unfolding kindOf most howMany tooMany
 count-agrees f l s c h tag a b =
-    five (λ t. leb (most t) (howMany c t) ≡ tooMany s t) tag a b refl (rw (h .stations)) (rw (h .tracks)) (rw (h .trains)) (rw (h .tables))
+    five (λ t. leb (most (kindOf t)) (howMany c (kindOf t)) ≡ tooMany s t) tag a b refl (rw (h .stations)) (rw (h .tracks)) (rw (h .trains)) (rw (h .tables))
 
 -- ---- the body
 
@@ -116,12 +117,12 @@ unfolding headOf
 minute-of l c h = ap (λ (a : Head). a .lastMinute) h
 
 body-agrees : (f : File) (l : List ℕ) (s : Seen) (c : Contents) → Holds f l s c → (tag n : ℕ) → Framed (length l) (isBook f) s tag n → (b : List ℕ) → length b ≡ n
-    → bodyVerdict (take (s .at) l) s tag b ≡ verdict (bodyRules c (s .at) tag b)
-unfolding bodyVerdict bodyRules
+    → bodyVerdict (take (s .at) l) s tag b ≡ verdict (bodyRules c (s .at) (kindOf tag) b)
+unfolding bodyVerdict bodyRules kindOf
 body-agrees case l s c h tag n d b e =
     let i = h .of-file in
     let lead : (from to : ℕ) → joined (take (s .at) l) (base s) (s .tracks) from to ≡ any (leads from to) (c .tracks) = λ from to. joined-take (s .at) l (base s) (s .tracks) from to (i .reached) ∙ i .tracks-lead from to in
-    five (λ t. outOfPlace false s t ≡ false → badLength t n ≡ false → bodyVerdict (take (s .at) l) s t b ≡ verdict (bodyRules c (s .at) t b)) tag (d .low) (d .high)
+    five (λ t. outOfPlace false s t ≡ false → badLength t n ≡ false → bodyVerdict (take (s .at) l) s t b ≡ verdict (bodyRules c (s .at) (kindOf t) b)) tag (d .low) (d .high)
     (λ p q. head-agrees b)
     (λ p q. station-agrees b)
     (λ p q. track-agrees c (take (s .at) l) (base s) (s .tracks) (s .stations) (sym (h .stations)) lead b)
@@ -169,8 +170,8 @@ module _ (f : File) (l : List ℕ) (s : Seen) (c : Contents) (h : Holds f l s c)
       first-on _ _ 2 _ _ (known-agrees t) (λ u.
       let low = eqb-false t 0 (or-false-first (eqb t 0) (ltb 5 t) u) in
       let high = ltb-false 5 t (or-false-second (eqb t 0) (ltb 5 t) u) in
-      first-on _ _ 3 _ _ (place-agrees f l s c h t) (λ m.
-      first-on _ _ 4 _ _ (length-agrees t n) (λ q.
+      first-on _ _ 3 _ _ (place-agrees f l s c h t high) (λ m.
+      first-on _ _ 4 _ _ (length-agrees t n (not-false (known (kindOf t)) (known-agrees t ∙ u))) (λ q.
       first-on _ _ 1 _ _ (left-test l (s .at) (3 + n) (s .at + 3 + n) (w .inside) (omega arith)) (λ o.
       first-on _ _ 5 _ _ (count-agrees f l s c h t (omega arith) high) (λ r.
       let whole = ltb-false (length l) (s .at + 3 + n) o in

@@ -11,9 +11,11 @@ use lib.Seq.{getD-take, getD-append-seam}
 use lib.Dec.{leb, ltb, eqb}
 use borrow.Author.Tests.{le-leb, leb-true, leb-false, ltb-true, ltb-false, ne-eqb, eqb-true}
 use Rattle.rules.specs.Lists.{one, any}
-use Rattle.rules.specs.Files.{File, Contents, Track, byte, headOf, trackOf, trainOf, tableOf, leads, more}
+use Rattle.rules.specs.Files.{File, Contents, Track, kindOf, byte, headOf, trackOf, trainOf, tableOf, leads, more}
 use Rattle.rules.specs.Files.File.{case, book}
+use Rattle.rules.specs.Files.Kind.{station, track, train, table}
 use Rattle.theory_lists.specs.Every.{any-append}
+use Rattle.theory_sound.specs.Kinds.{rank-tag, is-tag}
 use Rattle.file_fields.specs.At.{byte-part}
 use Rattle.file_bodies.specs.Bodies.{ends, joined, badLength, pairsVerdict, tableVerdict}
 use Rattle.file_bodies.specs.Search.{any-none, any-suc}
@@ -104,10 +106,10 @@ module _ (l : List ℕ) (s : Seen) (c : Contents) (i : InCase l s c) (one-head :
       (λ q. omega arith)
       (f .possible)
 
-  head-more : (grown tag .heads ≡ 0 → ⊥) → headOf (drop 3 l) ≡ more c (s .at) tag b .head
-  unfolding after counted more headOf
+  head-more : (grown tag .heads ≡ 0 → ⊥) → headOf (drop 3 l) ≡ more c (s .at) (kindOf tag) b .head
+  unfolding after counted more kindOf headOf
   head-more =
-      five (λ t. outOfPlace false s t ≡ false → badLength t n ≡ false → (grown t .heads ≡ 0 → ⊥) → headOf (drop 3 l) ≡ more c (s .at) t b .head) tag (f .low) (f .high)
+      five (λ t. outOfPlace false s t ≡ false → badLength t n ≡ false → (grown t .heads ≡ 0 → ⊥) → headOf (drop 3 l) ≡ more c (s .at) (kindOf t) b .head) tag (f .low) (f .high)
       (λ p q z.
       let e = head-length n q in
       let a : s .at + 3 ≡ 3 = rw (fresh p .0) in
@@ -118,10 +120,10 @@ module _ (l : List ℕ) (s : Seen) (c : Contents) (i : InCase l s c) (one-head :
       (λ p q z. i .head-stands z)
       (f .placed) (f .possible)
 
-  stations-more : (j : ℕ) → j < grown tag .stations → byte l (11 + 4 * j) ≡ getD (more c (s .at) tag b .stations) j 0
-  unfolding after counted more
+  stations-more : (j : ℕ) → j < grown tag .stations → byte l (11 + 4 * j) ≡ getD (more c (s .at) (kindOf tag) b .stations) j 0
+  unfolding after counted more kindOf
   stations-more j =
-      five (λ t. outOfPlace false s t ≡ false → badLength t n ≡ false → j < grown t .stations → byte l (11 + 4 * j) ≡ getD (more c (s .at) t b .stations) j 0) tag (f .low) (f .high)
+      five (λ t. outOfPlace false s t ≡ false → badLength t n ≡ false → j < grown t .stations → byte l (11 + 4 * j) ≡ getD (more c (s .at) (kindOf t) b .stations) j 0) tag (f .low) (f .high)
       (λ p q k. old k)
       (λ p q k.
       let r = rises s 2 p (λ e. omega arith) in
@@ -139,10 +141,10 @@ module _ (l : List ℕ) (s : Seen) (c : Contents) (i : InCase l s c) (one-head :
       old : j < s .stations → byte l (11 + 4 * j) ≡ getD (c .stations ++ []) j 0
       old k = i .stations-stand j k ∙ sym (ap (λ (m : List ℕ). getD m j 0) (append-nil (c .stations)))
 
-  tracks-more : (j : ℕ) → j < grown tag .tracks → trackOf (drop (base (grown tag) + 6 * j + 3) l) ≡ getD (more c (s .at) tag b .tracks) j noTrack
-  unfolding after counted more trackOf
+  tracks-more : (j : ℕ) → j < grown tag .tracks → trackOf (drop (base (grown tag) + 6 * j + 3) l) ≡ getD (more c (s .at) (kindOf tag) b .tracks) j noTrack
+  unfolding after counted more kindOf trackOf
   tracks-more j =
-      five (λ t. outOfPlace false s t ≡ false → badLength t n ≡ false → j < grown t .tracks → trackOf (drop (base (grown t) + 6 * j + 3) l) ≡ getD (more c (s .at) t b .tracks) j noTrack) tag (f .low) (f .high)
+      five (λ t. outOfPlace false s t ≡ false → badLength t n ≡ false → j < grown t .tracks → trackOf (drop (base (grown t) + 6 * j + 3) l) ≡ getD (more c (s .at) (kindOf t) b .tracks) j noTrack) tag (f .low) (f .high)
       (λ p q k. let z = fresh p .1 in absurd (omega arith))
       (λ p q k. let r = rises s 2 p (λ e. omega arith) in let z = i .placed .none-yet r in absurd (omega arith))
       (λ p q k.
@@ -184,10 +186,10 @@ module _ (l : List ℕ) (s : Seen) (c : Contents) (i : InCase l s c) (one-head :
       go false q true = refl
       go false q false = refl
 
-  lead-more : (from to : ℕ) → joined l (base (grown tag)) (grown tag .tracks) from to ≡ any (leads from to) (more c (s .at) tag b .tracks)
-  unfolding after counted more
+  lead-more : (from to : ℕ) → joined l (base (grown tag)) (grown tag .tracks) from to ≡ any (leads from to) (more c (s .at) (kindOf tag) b .tracks)
+  unfolding after counted more kindOf
   lead-more from to =
-      five (λ t. outOfPlace false s t ≡ false → badLength t n ≡ false → joined l (base (grown t)) (grown t .tracks) from to ≡ any (leads from to) (more c (s .at) t b .tracks)) tag (f .low) (f .high)
+      five (λ t. outOfPlace false s t ≡ false → badLength t n ≡ false → joined l (base (grown t)) (grown t .tracks) from to ≡ any (leads from to) (more c (s .at) (kindOf t) b .tracks)) tag (f .low) (f .high)
       (λ p q. none-lead _ from to (fresh p .1))
       (λ p q. let r = rises s 2 p (λ e. omega arith) in none-lead _ from to (i .placed .none-yet r))
       (λ p q. let r = rises s 3 p (λ e. omega arith) in one-leads from to (track-length n q) (i .placed .so-far r))
@@ -202,10 +204,12 @@ module _ (f : File) (l : List ℕ) (s : Seen) (c : Contents) (h : Holds f l s c)
   unfolding bodyVerdict
   of-table tag b e q = rw e at q
 
-  types-next : (x : ℕ) → any (λ e. leb x (e .type)) (more c (s .at) (tagOf l s) (bodyOf l s) .tables)
+  types-next : (x : ℕ) → any (λ e. leb x (e .type)) (more c (s .at) (kindOf (tagOf l s)) (bodyOf l s) .tables)
       ≡ cond (eqb (counted (tagOf l s) 5 (s .tables)) 0) false (leb x (newer (tagOf l s) (getD l (s .at + 3) 0) (s .kind)))
   unfolding more counted newer tableOf
-  types-next x = any-more (λ e. leb x (e .type)) (eqb (tagOf l s) 5) (tableOf (bodyOf l s)) (c .tables) ∙ go (eqb (tagOf l s) 5) refl
+  types-next x =
+      rw (is-tag table (tagOf l s) (omega arith))
+      (any-more (λ e. leb x (e .type)) (eqb (tagOf l s) 5) (tableOf (bodyOf l s)) (c .tables) ∙ go (eqb (tagOf l s) 5) refl)
     where
       go : (y : Bool) → eqb (tagOf l s) 5 ≡ y
           → cond y (any (λ e. leb x (e .type)) (c .tables) || leb x (byte (bodyOf l s) 0)) (any (λ e. leb x (e .type)) (c .tables))
@@ -219,7 +223,7 @@ module _ (f : File) (l : List ℕ) (s : Seen) (c : Contents) (h : Holds f l s c)
           ∙ ap (λ (k : ℕ). cond (eqb (s .tables + 1) 0) false (leb x k)) y
       go false e = h .types x
 
-case-next : (l : List ℕ) (s : Seen) (c : Contents) (h : Holds case l s c) (w : Within l s) (v : fieldVerdict false l s ≡ 0) → InCase l (next l s) (more c (s .at) (tagOf l s) (bodyOf l s))
+case-next : (l : List ℕ) (s : Seen) (c : Contents) (h : Holds case l s c) (w : Within l s) (v : fieldVerdict false l s ≡ 0) → InCase l (next l s) (more c (s .at) (kindOf (tagOf l s)) (bodyOf l s))
 unfolding next after
 case-next l s c h w v =
     let i = h .of-file in
@@ -237,18 +241,18 @@ case-next l s c h w v =
     }
 
 pub holds-next : (f : File) (l : List ℕ) (s : Seen) (c : Contents) → Holds f l s c → Within l s → fieldVerdict (isBook f) l s ≡ 0
-    → Holds f l (next l s) (more c (s .at) (tagOf l s) (bodyOf l s))
+    → Holds f l (next l s) (more c (s .at) (kindOf (tagOf l s)) (bodyOf l s))
 unfolding next after more counted
 holds-next f l s c h w v = record {
-  same-tag = refl;
-  stations = count-more (eqb (tagOf l s) 2) (byte (bodyOf l s) 0) (c .stations) (s .stations) (h .stations);
-  tracks = count-more (eqb (tagOf l s) 3) (trackOf (bodyOf l s)) (c .tracks) (s .tracks) (h .tracks);
-  trains = count-more (eqb (tagOf l s) 4) (trainOf (s .at) (bodyOf l s)) (c .trains) (s .trains) (h .trains);
-  tables = count-more (eqb (tagOf l s) 5) (tableOf (bodyOf l s)) (c .tables) (s .tables) (h .tables);
+  same-rank = rank-tag (tagOf l s) (field-framed l (isBook f) s w v .high);
+  stations = rw (is-tag station (tagOf l s) (omega arith)) (count-more (eqb (tagOf l s) 2) (byte (bodyOf l s) 0) (c .stations) (s .stations) (h .stations));
+  tracks = rw (is-tag track (tagOf l s) (omega arith)) (count-more (eqb (tagOf l s) 3) (trackOf (bodyOf l s)) (c .tracks) (s .tracks) (h .tracks));
+  trains = rw (is-tag train (tagOf l s) (omega arith)) (count-more (eqb (tagOf l s) 4) (trainOf (s .at) (bodyOf l s)) (c .trains) (s .trains) (h .trains));
+  tables = rw (is-tag table (tagOf l s) (omega arith)) (count-more (eqb (tagOf l s) 5) (tableOf (bodyOf l s)) (c .tables) (s .tables) (h .tables));
   types = types-next f l s c h w v;
   of-file = go f h v;
 }
   where
-    go : (f : File) → Holds f l s c → fieldVerdict (isBook f) l s ≡ 0 → OfFile f l (next l s) (more c (s .at) (tagOf l s) (bodyOf l s))
+    go : (f : File) → Holds f l s c → fieldVerdict (isBook f) l s ≡ 0 → OfFile f l (next l s) (more c (s .at) (kindOf (tagOf l s)) (bodyOf l s))
     go case h v = case-next l s c h w v
     go book h v = tt

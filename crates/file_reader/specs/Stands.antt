@@ -8,7 +8,7 @@ use lib.Dec.{eqb}
 use borrow.Author.Tests.{eqb-false}
 use Rattle.rules.specs.Refusals.{verdict}
 use Rattle.rules.specs.Refusals.Result.{answer}
-use Rattle.rules.specs.Files.{File, Contents, byte, headOf, fieldRules, more, endRules, read}
+use Rattle.rules.specs.Files.{File, Contents, kindOf, byte, headOf, fieldRules, more, endRules, read}
 use Rattle.rules.specs.Files.File.{case}
 use Rattle.theory_lists.specs.Tests.{or-three-false}
 use Rattle.theory_sound.specs.Verdicts.{Unbroken, withField}
@@ -40,7 +40,7 @@ module _ (f : File) (l : List ℕ) where
         seen = next l s;
         here = ap (past l) (p .here);
         inside = within-next l (isBook f) s (p .inside) e;
-        holds = rw (tag-here l i, body-here l i) (subst (λ (j : ℕ). Holds f l (next l s) (more c j (byte l j) (bodyHere l j))) (p .here) (holds-next f l s c (p .holds) (p .inside) e));
+        holds = rw (tag-here l i, body-here l i) (subst (λ (j : ℕ). Holds f l (next l s) (more c j (kindOf (byte l j)) (bodyHere l j))) (p .here) (holds-next f l s c (p .holds) (p .inside) e));
       }
 
   ends : (d : Contents) → read f l ≡ answer d → Reached f l (length l) d × Unbroken (endRules f d)
@@ -52,8 +52,8 @@ module _ (l : List ℕ) (d : Contents) (r : read case l ≡ answer d) where
   unfolding endRules
   headed z =
       let e = ends case l d r in
-      let t : d .tag ≡ 0 = e .0 .holds .same-tag ∙ e .0 .holds .of-file .placed .headed z in
-      eqb-false (d .tag) 0 (or-three-false (eqb (d .tag) 0) (eqb (length (d .stations)) 0) (eqb (length (d .trains)) 0) (e .1 .0) .0) t
+      let t : d .rank ≡ 0 = e .0 .holds .same-rank ∙ e .0 .holds .of-file .placed .headed z in
+      eqb-false (d .rank) 0 (or-three-false (eqb (d .rank) 0) (eqb (length (d .stations)) 0) (eqb (length (d .trains)) 0) (e .1 .0) .0) t
 
   pub head-of : d .head ≡ headOf (drop 3 l)
   head-of = sym (ends case l d r .0 .holds .of-file .head-stands headed)

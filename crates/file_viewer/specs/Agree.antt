@@ -2,19 +2,20 @@
 -- says that the file has ended; a refused file is refused at a place that the viewer reaches by fields, and where it is refused with 1 the viewer
 -- gives refusal 1. By induction on the turns of the reading: a field that breaks no rule is whole. Assumes nothing.
 use mathlib.Core.Path.{_≡_, refl, ap, sym, _∙_}
-use mathlib.Core.Bool.{Bool, true, false, not, _&&_, cond, false≢true}
+use mathlib.Core.Bool.{Bool, true, false, not, _&&_, false≢true}
 use mathlib.Core.List.{List, [], _∷_}
 use Prim.Native.Nat.{ℕ, zero, suc, _+_, _≤_, _<_}
 use native.Mathlib.Omega.{arith}
 use lib.ListN.{length, drop, length-drop, drop-of-length-le}
-use lib.Dec.{leb, ltb, eqb}
+use lib.Dec.{leb, ltb}
 use borrow.Author.Tests.{leb-true, leb-false, ltb-true}
 use Rattle.rules.specs.Lists.{has}
 use Rattle.rules.specs.Refusals.{Rule, Refusal, number, firstOf, verdict}
 use Rattle.rules.specs.Refusals.Fault.{overrun}
 use Rattle.rules.specs.Refusals.Result.{refused, answer}
-use Rattle.rules.specs.Files.{File, fileNumber, spot, Contents, byte, word, size, body, headOf, trackOf, trainOf, tableOf, known, inPlace, lengths, most, howMany, headRules, stationRules, trackRules, trainRules, tableRules, bodyRules, fieldRules, more, endRules, readField, readFields, empty, read}
+use Rattle.rules.specs.Files.{File, fileNumber, spot, Contents, Kind, kindOf, byte, word, kind, size, body, known, inPlace, lengths, most, howMany, headRules, stationRules, trackRules, trainRules, tableRules, bodyRules, fieldRules, more, endRules, readField, readFields, empty, read}
 use Rattle.rules.specs.Files.File.{case, book}
+use Rattle.rules.specs.Files.Kind.{head, station, track, train, table, noField}
 use Rattle.theory_sound.specs.Verdicts.{refused-answer, answer-answer, unless-answer, onward-answer, unless-refused, onward-refused, field-accepted}
 use Rattle.theory_sound.specs.Verdicts.{Field as Accepted}
 use Rattle.rules.specs.Viewer.{View, refusalOf, viewed, nextPlace, placeFrom}
@@ -71,17 +72,14 @@ verdict-no-one (r ∷ rs) h v = go (ltb 1 (number (r .fault))) (r .broken) refl 
     go true false e h v ih = ih h v
     go false b e h v ih = false≢true h
 
-cond-no-one : (b : Bool) (rs qs : List Rule) → noOne rs ≡ true → noOne qs ≡ true → noOne (cond b rs qs) ≡ true
-cond-no-one true rs qs p q = p
-cond-no-one false rs qs p q = q
-
-body-no-one : (c : Contents) (at tag : ℕ) (b : List ℕ) → noOne (bodyRules c at tag b) ≡ true
+body-no-one : (c : Contents) (at : ℕ) (k : Kind) (b : List ℕ) → noOne (bodyRules c at k b) ≡ true
 unfolding bodyRules headRules stationRules trackRules trainRules tableRules
-body-no-one c at tag b =
-    cond-no-one (eqb tag 1) (headRules (headOf b)) _ refl
-    (cond-no-one (eqb tag 2) (stationRules (byte b 0)) _ refl
-    (cond-no-one (eqb tag 3) (trackRules c (trackOf b)) _ refl
-    (cond-no-one (eqb tag 4) (trainRules c (trainOf at b)) (tableRules c (tableOf b)) refl refl)))
+body-no-one c at noField b = refl
+body-no-one c at head b = refl
+body-no-one c at station b = refl
+body-no-one c at track b = refl
+body-no-one c at train b = refl
+body-no-one c at table b = refl
 
 end-no-one : (f : File) (c : Contents) → noOne (endRules f c) ≡ true
 unfolding endRules
@@ -91,17 +89,17 @@ end-no-one book c = refl
 -- refusal 1 is a header or a body that runs past the end
 one-overruns : (f : File) (c : Contents) (at : ℕ) (m : List ℕ) → verdict (fieldRules f c at m) ≡ 1 → length m < 3 + size m
 unfolding fieldRules
-one-overruns f c at m h = go (ltb (length m) 3) (not (known (byte m 0))) (not (inPlace f c (byte m 0))) (not (has (lengths (byte m 0)) (size m))) (ltb (length m) (3 + size m)) (leb (most (byte m 0)) (howMany c (byte m 0))) refl refl h
+one-overruns f c at m h = go (ltb (length m) 3) (not (known (kind m))) (not (inPlace f c (kind m))) (not (has (lengths (kind m)) (size m))) (ltb (length m) (3 + size m)) (leb (most (kind m)) (howMany c (kind m))) refl refl h
   where
     go : (p q r s t u : Bool) → ltb (length m) 3 ≡ p → ltb (length m) (3 + size m) ≡ t
-        → firstOf p 1 (firstOf q 2 (firstOf r 3 (firstOf s 4 (firstOf t 1 (firstOf u 5 (verdict (bodyRules c at (byte m 0) (body m)))))))) ≡ 1 → length m < 3 + size m
+        → firstOf p 1 (firstOf q 2 (firstOf r 3 (firstOf s 4 (firstOf t 1 (firstOf u 5 (verdict (bodyRules c at (kind m) (body m)))))))) ≡ 1 → length m < 3 + size m
     go true q r s t u e o h = let a = ltb-true (length m) 3 e in omega arith
     go false true r s t u e o h = absurd (omega arith)
     go false false true s t u e o h = absurd (omega arith)
     go false false false true t u e o h = absurd (omega arith)
     go false false false false true u e o h = ltb-true (length m) (3 + size m) o
     go false false false false false true e o h = absurd (omega arith)
-    go false false false false false false e o h = absurd (verdict-no-one (bodyRules c at (byte m 0) (body m)) (body-no-one c at (byte m 0) (body m)) h)
+    go false false false false false false e o h = absurd (verdict-no-one (bodyRules c at (kind m) (body m)) (body-no-one c at (kind m) (body m)) h)
 
 -- ---- one field more
 
@@ -114,7 +112,7 @@ gives-onward l i n w g (suc k) b = ap (λ (a : View). whole l (placeFrom k l (ne
 -- ---- the reading, field by field
 
 module _ (f : File) (l : List ℕ) (d : Contents) where
-  onward-to-the-end : (i : ℕ) (c : Contents) → WholeHere l i → ToTheEnd l (past l i) (more c i (byte l i) (bodyHere l i)) d → ToTheEnd l i c d
+  onward-to-the-end : (i : ℕ) (c : Contents) → WholeHere l i → ToTheEnd l (past l i) (more c i (kindOf (byte l i)) (bodyHere l i)) d → ToTheEnd l i c d
   unfolding placeFrom heldFrom
   onward-to-the-end i c w t = record {
     many = suc (t .many);

@@ -3,7 +3,7 @@
 use mathlib.Core.List.{List}
 use Prim.Native.Nat.{ℕ, zero, suc, _+_}
 use lib.ListN.{take, drop}
-use Rattle.rules.specs.Files.{Contents, more}
+use Rattle.rules.specs.Files.{Contents, kindOf, more}
 use Rattle.rules.specs.Viewer.{View, viewed, nextPlace, placeOf}
 use Rattle.rules.specs.Viewer.View.{field, ended, overruns}
 use Rattle.file_fields.specs.declared.Field.{Field}
@@ -30,7 +30,7 @@ viewing l n = record { place = placeOf l n; field = fieldOf (viewed l (placeOf l
 
 -- with what was given at i
 abbrev pub withGiven : List ℕ → ℕ → Contents → View → Contents
-withGiven l i c (field tag size end) = more c i tag (take size (drop (i + 3) l))
+withGiven l i c (field tag size end) = more c i (kindOf tag) (take size (drop (i + 3) l))
 withGiven l i c ended = c
 withGiven l i c overruns = c
 

@@ -42,9 +42,9 @@ pub record Table : Type 0 where
   pub type : ℕ
   pub pairs : List Pair
 
--- what a file holds so far, each kind in the order of its fields; `tag` is the last field's, 0 before the first. A station is its capacity
+-- what a file holds so far, each kind in the order of its fields; `rank` is the last field's, 0 before the first. A station is its capacity
 pub record Contents : Type 0 where
-  pub tag : ℕ
+  pub rank : ℕ
   pub head : Head
   pub stations : List ℕ
   pub tracks : List Track
@@ -105,33 +105,66 @@ fileNumber book = 1
 abbrev pub spot : File → ℕ → Spot
 spot f at = record { file = fileNumber f; place = at }
 
--- the tags that there are
-unfoldable pub known : ℕ → Bool
-known tag = has (1 ∷ 2 ∷ 3 ∷ 4 ∷ 5 ∷ []) tag
+-- the kinds of fields
+pub data Kind : Type 0 where
+  head station track train table : Kind
+  noField : Kind  -- of a tag that there is not
 
--- what belongs to the tag, of what is said for a head, a station, a track, a train and a delay table
-abbrev pub byTag {ℓ} : {A : Type ℓ} → ℕ → A → A → A → A → A → A
-byTag tag h s r t d = cond (eqb tag 1) h (cond (eqb tag 2) s (cond (eqb tag 3) r (cond (eqb tag 4) t d)))
+-- the kind of the fields with the tag: 1 is a head, 2 a station, 3 a track, 4 a train, 5 a delay table
+unfoldable pub kindOf : ℕ → Kind
+kindOf tag = getD (noField ∷ head ∷ station ∷ track ∷ train ∷ table ∷ []) tag noField
 
--- a case has one head, first, and tags never fall; a book has tag 5 only
-unfoldable pub inPlace : File → Contents → ℕ → Bool
-inPlace case c tag = cond (eqb (c .tag) 0) (eqb tag 1) (not (eqb tag 1) && leb (c .tag) tag)
-inPlace book c tag = eqb tag 5
+-- the place of a kind in the order of fields
+abbrev pub rank : Kind → ℕ
+rank noField = 0
+rank head = 1
+rank station = 2
+rank track = 3
+rank train = 4
+rank table = 5
 
--- the lengths that are possible for the tag: a train has 2 to 8 stops, a table 1 to 8 pairs
-unfoldable pub lengths : ℕ → List ℕ
-lengths tag = byTag tag (5 ∷ []) (1 ∷ []) (3 ∷ []) (map (λ n. 2 + 5 * n) (span 7 2)) (map (λ n. 1 + 2 * n) (span 8 1))
+-- whether a field of kind k has its place among those of kind j
+abbrev pub is : Kind → Kind → Bool
+is j k = eqb (rank k) (rank j)
+
+-- whether there is such a field
+unfoldable pub known : Kind → Bool
+known k = not (eqb (rank k) 0)
+
+-- a case has one head, first, and tags never fall; a book has delay tables only
+unfoldable pub inPlace : File → Contents → Kind → Bool
+inPlace case c k = cond (eqb (c .rank) 0) (is head k) (not (is head k) && leb (c .rank) (rank k))
+inPlace book c k = is table k
+
+-- the lengths that are possible for a body: a train has 2 to 8 stops, a table 1 to 8 pairs
+unfoldable pub lengths : Kind → List ℕ
+lengths noField = []
+lengths head = 5 ∷ []
+lengths station = 1 ∷ []
+lengths track = 3 ∷ []
+lengths train = map (λ n. 2 + 5 * n) (span 7 2)
+lengths table = map (λ n. 1 + 2 * n) (span 8 1)
 
 abbrev pub mostTrains : ℕ
 mostTrains = 7
 
--- how many fields of a tag there may be
-unfoldable pub most : ℕ → ℕ
-most tag = byTag tag 1 24 40 mostTrains 8
+-- how many fields of a kind there may be
+unfoldable pub most : Kind → ℕ
+most noField = 0
+most head = 1
+most station = 24
+most track = 40
+most train = mostTrains
+most table = 8
 
 -- how many there are so far; heads are not counted, since a second one is refused 3 by its place
-unfoldable pub howMany : Contents → ℕ → ℕ
-howMany c tag = byTag tag 0 (length (c .stations)) (length (c .tracks)) (length (c .trains)) (length (c .tables))
+unfoldable pub howMany : Contents → Kind → ℕ
+howMany c noField = 0
+howMany c head = 0
+howMany c station = length (c .stations)
+howMany c track = length (c .tracks)
+howMany c train = length (c .trains)
+howMany c table = length (c .tables)
 
 -- ---- what is sound in a body
 
@@ -149,7 +182,7 @@ stationRules capacity = outOfRange when notIn 1 255 capacity ∷ []
 
 -- there is no station of that number
 unfoldable pub unknown : Contents → ℕ → Bool
-unknown c station = leb (length (c .stations)) station
+unknown c s = leb (length (c .stations)) s
 
 -- the track leads from one station to the other
 unfoldable pub leads : ℕ → ℕ → Track → Bool
@@ -211,14 +244,21 @@ tableRules c d =
     || any (λ e. leb (d .type) (e .type)) (c .tables))
     ∷ []
 
--- the rules of the body b of a field with the tag, at offset `at`, where the file holds c before it
-unfoldable pub bodyRules : Contents → ℕ → ℕ → List ℕ → List Rule
-bodyRules c at tag b =
-    byTag tag (headRules (headOf b)) (stationRules (byte b 0)) (trackRules c (trackOf b)) (trainRules c (trainOf at b)) (tableRules c (tableOf b))
+-- the rules of the body b of a field of the kind, at offset `at`, where the file holds c before it
+unfoldable pub bodyRules : Contents → ℕ → Kind → List ℕ → List Rule
+bodyRules c at noField b = []
+bodyRules c at head b = headRules (headOf b)
+bodyRules c at station b = stationRules (byte b 0)
+bodyRules c at track b = trackRules c (trackOf b)
+bodyRules c at train b = trainRules c (trainOf at b)
+bodyRules c at table b = tableRules c (tableOf b)
 
 -- ---- reading
 
--- of a field at the front of the bytes (one byte tag, two bytes length, body): its length, and its body
+-- of a field at the front of the bytes (one byte tag, two bytes length, body): its kind, its length, and its body
+abbrev pub kind : List ℕ → Kind
+kind l = kindOf (byte l 0)
+
 abbrev pub size : List ℕ → ℕ
 size l = word l 1
 
@@ -229,27 +269,27 @@ body l = take (size l) (drop 3 l)
 unfoldable pub fieldRules : File → Contents → ℕ → List ℕ → List Rule
 fieldRules f c at l =
     overrun when ltb (length l) 3
-    ∷ unknownTag when not (known (byte l 0))
-    ∷ misplaced when not (inPlace f c (byte l 0))
-    ∷ wrongLength when not (has (lengths (byte l 0)) (size l))
+    ∷ unknownTag when not (known (kind l))
+    ∷ misplaced when not (inPlace f c (kind l))
+    ∷ wrongLength when not (has (lengths (kind l)) (size l))
     ∷ overrun when ltb (length l) (3 + size l)
-    ∷ wrongCount when leb (most (byte l 0)) (howMany c (byte l 0))
-    ∷ bodyRules c at (byte l 0) (body l)
+    ∷ wrongCount when leb (most (kind l)) (howMany c (kind l))
+    ∷ bodyRules c at (kind l) (body l)
 
--- what the file holds with one field more, with its tag and its body b
-unfoldable pub more : Contents → ℕ → ℕ → List ℕ → Contents
-more c at tag b = record {
-  tag = tag;
-  head = byTag tag (headOf b) (c .head) (c .head) (c .head) (c .head);
-  stations = c .stations ++ one (eqb tag 2) (byte b 0);
-  tracks = c .tracks ++ one (eqb tag 3) (trackOf b);
-  trains = c .trains ++ one (eqb tag 4) (trainOf at b);
-  tables = c .tables ++ one (eqb tag 5) (tableOf b);
+-- what the file holds with one field more, with its kind and its body b
+unfoldable pub more : Contents → ℕ → Kind → List ℕ → Contents
+more c at k b = record {
+  rank = rank k;
+  head = cond (is head k) (headOf b) (c .head);
+  stations = c .stations ++ one (is station k) (byte b 0);
+  tracks = c .tracks ++ one (is track k) (trackOf b);
+  trains = c .trains ++ one (is train k) (trainOf at b);
+  tables = c .tables ++ one (is table k) (tableOf b);
 }
 
 -- at the end of a case, no head, station or train
 unfoldable pub endRules : File → Contents → List Rule
-endRules case c = wrongCount when (eqb (c .tag) 0 || eqb (length (c .stations)) 0 || eqb (length (c .trains)) 0) ∷ []
+endRules case c = wrongCount when (eqb (c .rank) 0 || eqb (length (c .stations)) 0 || eqb (length (c .trains)) 0) ∷ []
 endRules book c = []
 
 -- The field at offset `at`, where the bytes l stand, is judged and added to what the file holds, and `go` reads on after it. Where no byte is left, the end
@@ -257,7 +297,7 @@ endRules book c = []
 unfoldable pub readField : (ℕ → List ℕ → Contents → Result Contents) → File → ℕ → List ℕ → Contents → Result Contents
 readField go f at [] c = judged (endRules f c) (spot f at) c
 readField go f at (b ∷ l) c =
-    then (judged (fieldRules f c at (b ∷ l)) (spot f at) (more c at b (body (b ∷ l))))
+    then (judged (fieldRules f c at (b ∷ l)) (spot f at) (more c at (kind (b ∷ l)) (body (b ∷ l))))
     (go (at + (3 + size (b ∷ l))) (drop (3 + size (b ∷ l)) (b ∷ l)))
 
 -- fields are read one after another; the first that isn't sound ends the reading. There are n turns, of which `read` gives enough
@@ -268,7 +308,7 @@ readFields (suc n) f at l c = readField (readFields n f) f at l c
 -- what a file holds before its first field
 abbrev pub empty : Contents
 empty = record {
-  tag = 0;
+  rank = 0;
   head = record { lastMinute = 0; safety = 0; room = 0 };
   stations = [];
   tracks = [];

@@ -9,7 +9,7 @@ use lib.Dec.{eqb}
 use Rattle.rules.specs.Lists.{count}
 use Rattle.rules.specs.Refusals.{Result}
 use Rattle.rules.specs.Refusals.Result.{refused, answer}
-use Rattle.rules.specs.Files.{headOf, trackOf, stopOf, trainOf, pairOf, tableOf, known, inPlace, lengths, most, howMany, headRules, stationRules, unknown, leads, trackRules, pathBroken, timesBroken, trainRules, tableRules, bodyRules, fieldRules, more, endRules, readField, readFields, read, tablesOf, caseOf, files}
+use Rattle.rules.specs.Files.{headOf, trackOf, stopOf, trainOf, pairOf, tableOf, kindOf, known, inPlace, lengths, most, howMany, headRules, stationRules, unknown, leads, trackRules, pathBroken, timesBroken, trainRules, tableRules, bodyRules, fieldRules, more, endRules, readField, readFields, read, tablesOf, caseOf, files}
 use Rattle.rules.specs.Turns.{same, way, ahead, lastStation, elements, capacity, ended, asks, sooner, dueAgain, leaving, entered, arriving, goesFirst, next, turns, visit, minute, minutes, runFrom}
 use Rattle.rules.specs.Single.{waits, firstMarks, trainsOn, enters, serveTrain, singleRules, single, arrival}
 use Rattle.rules.specs.Joint.{common, without, inside, apart, outsides, choicesIn, whole, weightOf, weight, total, firstList, carry, meets, pieces, serveEntry, checkList, jointRules, joint, weightAt}
@@ -82,5 +82,5 @@ points =
     ∷ []
 
 pub every-point : map (λ p. ask (p .question)) points ≡ map (λ p. p .answer) points
-unfolding points ask shift headOf trackOf stopOf trainOf pairOf tableOf known inPlace lengths most howMany headRules stationRules unknown leads trackRules pathBroken timesBroken trainRules tableRules bodyRules fieldRules more endRules readField readFields read tablesOf caseOf files same way ahead lastStation elements capacity ended asks sooner dueAgain leaving entered arriving goesFirst next turns visit minute minutes runFrom waits firstMarks trainsOn enters serveTrain singleRules single arrival common without inside apart outsides choicesIn whole weightOf weight total firstList carry meets pieces serveEntry checkList jointRules joint weightAt decimal notArrived trainLines listing choiceBroken noSuchTrain singleRun stoppedRun wholeRun textOf
+unfolding points ask shift headOf trackOf stopOf trainOf pairOf tableOf kindOf known inPlace lengths most howMany headRules stationRules unknown leads trackRules pathBroken timesBroken trainRules tableRules bodyRules fieldRules more endRules readField readFields read tablesOf caseOf files same way ahead lastStation elements capacity ended asks sooner dueAgain leaving entered arriving goesFirst next turns visit minute minutes runFrom waits firstMarks trainsOn enters serveTrain singleRules single arrival common without inside apart outsides choicesIn whole weightOf weight total firstList carry meets pieces serveEntry checkList jointRules joint weightAt decimal notArrived trainLines listing choiceBroken noSuchTrain singleRun stoppedRun wholeRun textOf
 every-point = refl

@@ -1,6 +1,6 @@
 -- A property of every item of a list, and whether one passes a test. Each law is shown by induction on the list. Assumes nothing.
 use mathlib.Core.Path.{subst, _≡_, refl, sym, ap, ap₂, _∙_}
-use mathlib.Core.Bool.{Bool, true, false, _&&_, _||_, cond, false≢true, or-assoc, and-false}
+use mathlib.Core.Bool.{Bool, true, false, _&&_, _||_, false≢true, or-assoc, and-false}
 use mathlib.Core.List.{List, [], _∷_, _++_, map}
 use Prim.Native.Nat.{ℕ, zero, suc, _<_}
 use native.Mathlib.Nat.{not-suc-le-zero, le-of-suc-le-suc}
@@ -44,10 +44,6 @@ every-keep P test l h = every-each P P (λ a. one (test a) a) (λ a p. every-one
 
 pub every-append-one {ℓ} : {A : Type ℓ} (P : A → Type 0) (l : List A) (c : Bool) (a : A) → Every P l → (c ≡ true → P a) → Every P (l ++ one c a)
 every-append-one P l c a h k = every-append P l (one c a) h (every-one P c a k)
-
-pub every-cond {ℓ} : {A : Type ℓ} (P : A → Type 0) (c : Bool) (s t : List A) → Every P s → Every P t → Every P (cond c s t)
-every-cond P true s t h k = h
-every-cond P false s t h k = k
 
 pub every-all {ℓ} : {A : Type ℓ} (P : A → Type 0) → ((a : A) → P a) → (l : List A) → Every P l
 every-all P h [] = tt

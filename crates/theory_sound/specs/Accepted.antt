@@ -82,7 +82,7 @@ pub record Complete (c : Contents) : Type 0 where
 pub case-complete : (l : List ℕ) (c : Contents) → read case l ≡ answer c → Complete c
 unfolding endRules
 case-complete l c h = record {
-  head = r .0 (eqb-false (c .tag) 0 (parts .0));
+  head = r .0 (eqb-false (c .rank) 0 (parts .0));
   some-station = eqb-zero-false (length (c .stations)) (parts .1);
   some-train = eqb-zero-false (length (c .trains)) (parts .2);
 }
@@ -90,8 +90,8 @@ case-complete l c h = record {
     r : Headed c × Unbroken (endRules case c)
     r = read-keeps case (λ at k. Headed k) headed-more l c (λ n. absurd (n refl)) h
 
-    parts : (eqb (c .tag) 0 ≡ false) × (eqb (length (c .stations)) 0 ≡ false) × (eqb (length (c .trains)) 0 ≡ false)
-    parts = or-three-false (eqb (c .tag) 0) (eqb (length (c .stations)) 0) (eqb (length (c .trains)) 0) (r .1 .0)
+    parts : (eqb (c .rank) 0 ≡ false) × (eqb (length (c .stations)) 0 ≡ false) × (eqb (length (c .trains)) 0 ≡ false)
+    parts = or-three-false (eqb (c .rank) 0) (eqb (length (c .stations)) 0) (eqb (length (c .trains)) 0) (r .1 .0)
 
 -- ---- the tables of the trains
 

@@ -11,6 +11,7 @@ use lib.Dec.{leb, ltb, eqb}
 use borrow.Author.Tests.{ltb-false, leb-false, eqb-true, eqb-false, not-false}
 use Rattle.rules.specs.Lists.{any, sum, below, has}
 use Rattle.rules.specs.Files.{Head, Track, Stop, Train, Pair, Table, Contents, stopOf, trainOf, pairOf, tableOf, lengths, notIn, headRules, stationRules, unknown, leads, trackRules, anyStep, repeats, pathBroken, lastOf, timesBroken, trainRules, rising, tableRules, size, body}
+use Rattle.rules.specs.Files.Kind.{train, table}
 use Rattle.theory_sound.specs.Facts.{SoundHead, SoundCapacity, SoundTrack, SoundTrain, SoundPairs}
 use Rattle.theory_lists.specs.Tests.{or-false-first, or-false-second, or-three-false, eqb-zero-false}
 use Rattle.theory_lists.specs.Every.{fails-every, has-every}
@@ -156,14 +157,14 @@ unfolding tableOf
 pairs-count b =
     length-map (below ((length b - 1) / 2)) (λ k. pairOf (drop (1 + 2 * k) b)) ∙ length-span ((length b - 1) / 2) 0
 
-pub train-stops : (at : ℕ) (b : List ℕ) → has (lengths 4) (length b) ≡ true → (2 ≤ length (trainOf at b .stops)) × (length (trainOf at b .stops) ≤ 8)
+pub train-stops : (at : ℕ) (b : List ℕ) → has (lengths train) (length b) ≡ true → (2 ≤ length (trainOf at b .stops)) × (length (trainOf at b .stops) ≤ 8)
 unfolding lengths
 train-stops at b h =
-    let n = has-every (λ m. (2 ≤ (m - 2) / 5) × ((m - 2) / 5 ≤ 8)) (lengths 4) (length b) (omega arith) h in
+    let n = has-every (λ m. (2 ≤ (m - 2) / 5) × ((m - 2) / 5 ≤ 8)) (lengths train) (length b) (omega arith) h in
     omega (arith, stops-count at b)
 
-pub table-pairs : (b : List ℕ) → has (lengths 5) (length b) ≡ true → (1 ≤ length (tableOf b .pairs)) × (length (tableOf b .pairs) ≤ 8)
+pub table-pairs : (b : List ℕ) → has (lengths table) (length b) ≡ true → (1 ≤ length (tableOf b .pairs)) × (length (tableOf b .pairs) ≤ 8)
 unfolding lengths
 table-pairs b h =
-    let n = has-every (λ m. (1 ≤ (m - 1) / 2) × ((m - 1) / 2 ≤ 8)) (lengths 5) (length b) (omega arith) h in
+    let n = has-every (λ m. (1 ≤ (m - 1) / 2) × ((m - 1) / 2 ≤ 8)) (lengths table) (length b) (omega arith) h in
     omega (arith, pairs-count b)

@@ -1,24 +1,24 @@
 -- An accepted case has at most 819 bytes and an accepted book at most 160, and more turns than the bytes need change nothing.
--- The offset of a field is at most what the fields before it may take, by their number of each tag; a turn is needed only for a field. Assumes nothing.
+-- The offset of a field is at most what the fields before it may take, by their number of each kind; a turn is needed only for a field. Assumes nothing.
 use mathlib.Core.Path.{_≡_, refl, subst}
-use mathlib.Core.Bool.{true}
+use mathlib.Core.Bool.{true, false≢true}
 use mathlib.Core.List.{List, [], _∷_}
 use Prim.Native.Nat.{ℕ, zero, suc, _+_, _*_, _≤_, _<_}
 use native.Mathlib.Nat.{not-suc-le-zero}
 use native.Mathlib.Omega.{arith}
 use lib.ListN.{length}
-use lib.Dec.{eqb}
-use borrow.Author.Tests.{eqb-true}
 use Rattle.rules.specs.Lists.{tick, has}
 use Rattle.rules.specs.Refusals.{verdict, Result, then, answerUnless}
 use Rattle.rules.specs.Refusals.Result.{answer}
-use Rattle.rules.specs.Files.{Contents, File, spot, byte, trainOf, tableOf, known, inPlace, lengths, size, body, fieldRules, more, readField, readFields, empty, read}
+use Rattle.rules.specs.Files.{Contents, File, Kind, spot, trainOf, tableOf, is, kind, inPlace, lengths, size, body, fieldRules, more, readField, readFields, empty, read}
 use Rattle.rules.specs.Files.File.{case, book}
+use Rattle.rules.specs.Files.Kind.{head, station, track, train, table, noField}
 use Rattle.theory_lists.specs.Every.{Every, every-append-one, has-every}
 use Rattle.theory_sound.specs.Steps.{length-more}
+use Rattle.theory_sound.specs.Kinds.{is-kind, some-rank}
 use Rattle.theory_sound.specs.Verdicts.{Field, field-accepted, past, rest, withField, length-rest}
 use Rattle.theory_sound.specs.Reading.{read-keeps}
-use Rattle.theory_sound.specs.Kept.{Kept, kept-empty, kept-more, head-first, some-tag}
+use Rattle.theory_sound.specs.Kept.{Kept, kept-empty, kept-more, head-first}
 use Rattle.theory_sound.specs.Accepted.{read-kept}
 
 -- ---- bytes
@@ -30,7 +30,7 @@ most-bytes s r t d = 8 + 4 * s + 6 * r + 45 * t + 20 * d
 -- at the offset of a field, what the fields before it hold
 pub record Within (at : ℕ) (c : Contents) : Type 0 where
   pub kept : Kept c
-  pub start : c .tag ≡ 0 → at ≡ 0
+  pub start : c .rank ≡ 0 → at ≡ 0
   pub extent : at ≤ most-bytes (length (c .stations)) (length (c .tracks)) (length (c .trains)) (length (c .tables))
   pub places : Every (λ t. t .place ≤ 819) (c .trains)
 
@@ -40,51 +40,36 @@ within-empty = record { kept = kept-empty; start = λ z. refl; extent = omega ar
 pub within-bytes : (at : ℕ) (c : Contents) → Within at c → at ≤ 819
 within-bytes at c w = omega (arith, w .extent, w .kept .few-stations, w .kept .few-tracks, w .kept .few-trains, w .kept .few-tables)
 
--- a field takes at most what its tag allows
-field-extent : (at s r t d tag size : ℕ) → known tag ≡ true → has (lengths tag) size ≡ true → (tag ≡ 1 → at ≡ 0) → at ≤ most-bytes s r t d
-    → at + (3 + size) ≤ most-bytes (s + tick (eqb tag 2)) (r + tick (eqb tag 3)) (t + tick (eqb tag 4)) (d + tick (eqb tag 5))
-unfolding known lengths
-field-extent at s r t d tag size k = has-every Extends (1 ∷ 2 ∷ 3 ∷ 4 ∷ 5 ∷ []) tag (head, (station, (track, (train, (table, tt))))) k
-  where
-    Extends : ℕ → Type 0
-    Extends tag =
-        has (lengths tag) size ≡ true → (tag ≡ 1 → at ≡ 0) → at ≤ most-bytes s r t d
-        → at + (3 + size) ≤ most-bytes (s + tick (eqb tag 2)) (r + tick (eqb tag 3)) (t + tick (eqb tag 4)) (d + tick (eqb tag 5))
-
-    head : Extends 1
-    head h z e = omega (arith, has-every (λ m. m ≤ 5) (lengths 1) size (omega arith) h, z refl)
-
-    station : Extends 2
-    station h z e = omega (arith, has-every (λ m. m ≤ 1) (lengths 2) size (omega arith) h)
-
-    track : Extends 3
-    track h z e = omega (arith, has-every (λ m. m ≤ 3) (lengths 3) size (omega arith) h)
-
-    train : Extends 4
-    train h z e = omega (arith, has-every (λ m. m ≤ 42) (lengths 4) size (omega arith) h)
-
-    table : Extends 5
-    table h z e = omega (arith, has-every (λ m. m ≤ 17) (lengths 5) size (omega arith) h)
+-- a field takes at most what its kind allows
+field-extent : (at s r t d : ℕ) (k : Kind) (size : ℕ) → has (lengths k) size ≡ true → (is head k ≡ true → at ≡ 0) → at ≤ most-bytes s r t d
+    → at + (3 + size) ≤ most-bytes (s + tick (is station k)) (r + tick (is track k)) (t + tick (is train k)) (d + tick (is table k))
+unfolding lengths
+field-extent at s r t d noField size h z e = absurd (false≢true h)
+field-extent at s r t d head size h z e = omega (arith, has-every (λ m. m ≤ 5) (lengths head) size (omega arith) h, z refl)
+field-extent at s r t d station size h z e = omega (arith, has-every (λ m. m ≤ 1) (lengths station) size (omega arith) h)
+field-extent at s r t d track size h z e = omega (arith, has-every (λ m. m ≤ 3) (lengths track) size (omega arith) h)
+field-extent at s r t d train size h z e = omega (arith, has-every (λ m. m ≤ 42) (lengths train) size (omega arith) h)
+field-extent at s r t d table size h z e = omega (arith, has-every (λ m. m ≤ 17) (lengths table) size (omega arith) h)
 
 pub within-more : (f : File) (c : Contents) (at : ℕ) (l : List ℕ) → Field f c at l → Within at c
     → Within (past at l) (withField c at l)
 unfolding more trainOf
 within-more f c at l d w = record {
   kept = kept-more f c at l d (w .kept);
-  start = λ z. absurd (omega (arith, some-tag (byte l 0) (d .a-tag), z));
+  start = λ z. absurd (omega (arith, some-rank (kind l) (d .a-tag), z));
   extent = simp length-more extent;
-  places = every-append-one (λ t. t .place ≤ 819) (c .trains) (eqb (byte l 0) 4) (trainOf at (body l)) (w .places) (λ e. within-bytes at c w);
+  places = every-append-one (λ t. t .place ≤ 819) (c .trains) (is train (kind l)) (trainOf at (body l)) (w .places) (λ e. within-bytes at c w);
 }
   where
-    first : byte l 0 ≡ 1 → at ≡ 0
-    first e = w .start (head-first f c (subst (λ (t : ℕ). inPlace f c t ≡ true) e (d .in-place)))
+    first : is head (kind l) ≡ true → at ≡ 0
+    first e = w .start (head-first f c (subst (λ (k : Kind). inPlace f c k ≡ true) (is-kind head (kind l) e) (d .in-place)))
 
     extent : past at l
-        ≤ most-bytes (length (c .stations) + tick (eqb (byte l 0) 2)) (length (c .tracks) + tick (eqb (byte l 0) 3))
-        (length (c .trains) + tick (eqb (byte l 0) 4)) (length (c .tables) + tick (eqb (byte l 0) 5))
+        ≤ most-bytes (length (c .stations) + tick (is station (kind l))) (length (c .tracks) + tick (is track (kind l)))
+        (length (c .trains) + tick (is train (kind l))) (length (c .tables) + tick (is table (kind l)))
     extent =
-        field-extent at (length (c .stations)) (length (c .tracks)) (length (c .trains)) (length (c .tables)) (byte l 0) (size l)
-        (d .a-tag) (d .a-length) first (w .extent)
+        field-extent at (length (c .stations)) (length (c .tracks)) (length (c .trains)) (length (c .tables)) (kind l) (size l)
+        (d .a-length) first (w .extent)
 
 pub case-bytes : (l : List ℕ) (c : Contents) → read case l ≡ answer c → length l ≤ 819
 case-bytes l c h = within-bytes (length l) c (read-keeps case Within (within-more case) l c within-empty h .0)
@@ -96,8 +81,8 @@ table-extent c at l d h = rw (d .in-place) (omega (arith, length-more (c .tables
   where
     small : size l ≤ 17
     small =
-        has-every (λ m. m ≤ 17) (lengths 5) (size l) (omega arith)
-        (subst (λ (t : ℕ). has (lengths t) (size l) ≡ true) (eqb-true (byte l 0) 5 (d .in-place)) (d .a-length))
+        has-every (λ m. m ≤ 17) (lengths table) (size l) (omega arith)
+        (subst (λ (k : Kind). has (lengths k) (size l) ≡ true) (is-kind table (kind l) (d .in-place)) (d .a-length))
 
 pub book-bytes : (l : List ℕ) (c : Contents) → read book l ≡ answer c → length l ≤ 160
 book-bytes l c h =

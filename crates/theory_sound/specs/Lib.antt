@@ -1,6 +1,7 @@
 pub mod Facts
 pub mod Steps
 pub mod Ways
+pub mod Kinds
 pub mod Verdicts
 pub mod Reading
 pub mod Bodies

@@ -9,9 +9,10 @@ use lib.Dec.{eqb}
 use Rattle.rules.specs.Refusals.{number, Rule, verdict, Refusal}
 use Rattle.rules.specs.Refusals.Fault.{noTable}
 use Rattle.rules.specs.Refusals.Result.{refused}
-use Rattle.rules.specs.Files.{Train, File, fileNumber, spot, Contents, byte, headOf, trackOf, trainOf, tableOf, headRules, stationRules, trackRules, trainRules, tableRules, bodyRules, body, fieldRules, endRules, readField, readFields, empty, read, Case, tablesOf, caseOf, lacking, noneLacking, files}
+use Rattle.rules.specs.Files.{Train, File, fileNumber, spot, Contents, Kind, kind, headRules, stationRules, trackRules, trainRules, tableRules, bodyRules, body, fieldRules, endRules, readField, readFields, empty, read, Case, tablesOf, caseOf, lacking, noneLacking, files}
 use Rattle.rules.specs.Files.File.{case, book}
-use Rattle.theory_lists.specs.Every.{Every, every-cond, every-keep}
+use Rattle.rules.specs.Files.Kind.{head, station, track, train, table, noField}
+use Rattle.theory_lists.specs.Every.{Every, every-keep}
 use Rattle.theory_sound.specs.Verdicts.{refused-answer, refused-refused, unless-refused, onward-refused, then-refused, Given, number-given, verdict-given, verdict-few, field-accepted, past, rest, withField}
 use Rattle.theory_sound.specs.Reading.{read-keeps}
 use Rattle.theory_sound.specs.Bounds.{Within, within-empty, within-bytes, within-more}
@@ -33,18 +34,19 @@ file-few book = omega arith
 abbrev Low : Rule → Type 0
 Low r = number (r .fault) ≤ 10
 
-body-low : (c : Contents) (at tag : ℕ) (b : List ℕ) → Every Low (bodyRules c at tag b)
+body-low : (c : Contents) (at : ℕ) (k : Kind) (b : List ℕ) → Every Low (bodyRules c at k b)
 unfolding bodyRules headRules stationRules trackRules trainRules tableRules
-body-low c at tag b =
-    every-cond Low (eqb tag 1) (headRules (headOf b)) _ (omega arith)
-    (every-cond Low (eqb tag 2) (stationRules (byte b 0)) _ (omega arith)
-    (every-cond Low (eqb tag 3) (trackRules c (trackOf b)) _ (omega arith)
-    (every-cond Low (eqb tag 4) (trainRules c (trainOf at b)) (tableRules c (tableOf b)) (omega arith) (omega arith))))
+body-low c at noField b = tt
+body-low c at head b = omega arith
+body-low c at station b = omega arith
+body-low c at track b = omega arith
+body-low c at train b = omega arith
+body-low c at table b = omega arith
 
 field-few : (f : File) (c : Contents) (at : ℕ) (l : List ℕ) → verdict (fieldRules f c at l) ≤ 10
 unfolding fieldRules
 field-few f c at l =
-    verdict-few 10 (fieldRules f c at l) (omega arith, (omega arith, (omega arith, (omega arith, (omega arith, (omega arith, body-low c at (byte l 0) (body l)))))))
+    verdict-few 10 (fieldRules f c at l) (omega arith, (omega arith, (omega arith, (omega arith, (omega arith, (omega arith, body-low c at (kind l) (body l)))))))
 
 end-few : (f : File) (c : Contents) → verdict (endRules f c) ≤ 10
 unfolding endRules

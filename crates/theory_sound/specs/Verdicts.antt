@@ -11,7 +11,7 @@ use Rattle.rules.specs.Lists.{has}
 use Rattle.rules.specs.Refusals.{Fault, number, Rule, firstOf, verdict, Refusal, Spot, Result, then, answerUnless}
 use Rattle.rules.specs.Refusals.Fault.{overrun, unknownTag, misplaced, wrongLength, wrongCount, outOfRange, wrongEnds, wrongPath, wrongTimes, wrongTable, noTable, noRoom, tooShort, wrongChoice, noTrain, stopTooLate}
 use Rattle.rules.specs.Refusals.Result.{refused, answer}
-use Rattle.rules.specs.Files.{File, Contents, byte, known, inPlace, lengths, most, howMany, size, body, bodyRules, fieldRules, more}
+use Rattle.rules.specs.Files.{File, Contents, kind, known, inPlace, lengths, most, howMany, size, body, bodyRules, fieldRules, more}
 use Rattle.theory_lists.specs.Every.{Every}
 
 -- ---- refusals and answers
@@ -125,26 +125,26 @@ length-rest l = length-drop (3 + size l) l
 
 -- what the file holds with the field
 abbrev pub withField : Contents → ℕ → List ℕ → Contents
-withField c at l = more c at (byte l 0) (body l)
+withField c at l = more c at (kind l) (body l)
 
 -- what is known of an accepted field at offset `at`, where the bytes l stand
 pub record Field (f : File) (c : Contents) (at : ℕ) (l : List ℕ) : Type 0 where
-  pub a-tag : known (byte l 0) ≡ true
-  pub in-place : inPlace f c (byte l 0) ≡ true
-  pub a-length : has (lengths (byte l 0)) (size l) ≡ true
+  pub a-tag : known (kind l) ≡ true
+  pub in-place : inPlace f c (kind l) ≡ true
+  pub a-length : has (lengths (kind l)) (size l) ≡ true
   pub whole : 3 + size l ≤ length l
-  pub not-full : howMany c (byte l 0) < most (byte l 0)
-  pub unbroken : Unbroken (bodyRules c at (byte l 0) (body l))
+  pub not-full : howMany c (kind l) < most (kind l)
+  pub unbroken : Unbroken (bodyRules c at (kind l) (body l))
 
 pub field-accepted : (f : File) (c : Contents) (at : ℕ) (l : List ℕ) → verdict (fieldRules f c at l) ≡ 0 → Field f c at l
 unfolding fieldRules
 field-accepted f c at l h =
     let e = verdict-unbroken (fieldRules f c at l) h in
     record {
-      a-tag = not-false (known (byte l 0)) (e .1 .0);
-      in-place = not-false (inPlace f c (byte l 0)) (e .1 .1 .0);
-      a-length = not-false (has (lengths (byte l 0)) (size l)) (e .1 .1 .1 .0);
+      a-tag = not-false (known (kind l)) (e .1 .0);
+      in-place = not-false (inPlace f c (kind l)) (e .1 .1 .0);
+      a-length = not-false (has (lengths (kind l)) (size l)) (e .1 .1 .1 .0);
       whole = ltb-false (length l) (3 + size l) (e .1 .1 .1 .1 .0);
-      not-full = leb-false (most (byte l 0)) (howMany c (byte l 0)) (e .1 .1 .1 .1 .1 .0);
+      not-full = leb-false (most (kind l)) (howMany c (kind l)) (e .1 .1 .1 .1 .1 .0);
       unbroken = e .1 .1 .1 .1 .1 .1;
     }

@@ -8,14 +8,15 @@ use native.Mathlib.Nat.{zero-add, suc-add}
 use native.Mathlib.Omega.{arith}
 use lib.ListN.{length, take, drop, length-take}
 use lib.Seq.{take-nil, take-take, getD-take}
-use lib.Dec.{leb, ltb, eqb}
+use lib.Dec.{leb, ltb}
 use borrow.Author.Tests.{ltb-true, ltb-false, lt-ltb, le-ltb, not-false}
 use Rattle.rules.specs.Lists.{has}
 use Rattle.rules.specs.Refusals.{Rule, _when_, verdict, Result, then, answerUnless}
 use Rattle.rules.specs.Refusals.Fault.{overrun, unknownTag, misplaced, wrongLength, wrongCount}
-use Rattle.rules.specs.Files.{File, spot, Contents, byte, known, inPlace, lengths, most, howMany, bodyRules, size, body, fieldRules, more, readField, readFields, empty, read, files}
+use Rattle.rules.specs.Files.{File, Kind, kindOf, spot, Contents, byte, kind, known, inPlace, lengths, most, howMany, bodyRules, size, body, fieldRules, more, readField, readFields, empty, read, files}
 use Rattle.rules.specs.Files.File.{case, book}
-use Rattle.theory_lists.specs.Every.{Every, every-cond, has-every}
+use Rattle.rules.specs.Files.Kind.{head, station, track, train, table, noField}
+use Rattle.theory_lists.specs.Every.{Every, has-every}
 use Rattle.theory_sound.specs.Verdicts.{Field, field-accepted, past, rest, withField}
 use Rattle.theory_sound.specs.Bounds.{Within, within-empty, within-bytes, within-more, turns-suffice}
 
@@ -43,18 +44,20 @@ drop-take-less k w l h = ap (λ (n : ℕ). drop k (take n l)) (sum-back h) ∙ d
 -- ---- a field and its beginning
 
 -- no possible length is above 42
-lengths-small : (tag n : ℕ) → has (lengths tag) n ≡ true → n ≤ 42
+lengths-small : (k : Kind) (n : ℕ) → has (lengths k) n ≡ true → n ≤ 42
 unfolding lengths
-lengths-small tag n h = has-every Small (lengths tag) n small h
+lengths-small k n h = has-every Small (lengths k) n (small k) h
   where
     Small : ℕ → Type 0
     Small m = m ≤ 42
 
-    small : Every Small (lengths tag)
-    small =
-        every-cond Small (eqb tag 1) _ _ (omega arith)
-        (every-cond Small (eqb tag 2) _ _ (omega arith)
-        (every-cond Small (eqb tag 3) _ _ (omega arith) (every-cond Small (eqb tag 4) _ _ (omega arith) (omega arith))))
+    small : (k : Kind) → Every Small (lengths k)
+    small noField = tt
+    small head = omega arith
+    small station = omega arith
+    small track = omega arith
+    small train = omega arith
+    small table = omega arith
 
 module _ (f : File) (c : Contents) (at w : ℕ) (l : List ℕ) (h : 45 ≤ w) where
   byte-take : (i : ℕ) → i < w → byte (take w l) i ≡ byte l i
@@ -70,18 +73,18 @@ module _ (f : File) (c : Contents) (at w : ℕ) (l : List ℕ) (h : 45 ≤ w) wh
       ∙ take-take (size l) (w - 3) (drop 3 l) (omega arith)
 
   -- the rules of a field, by what they look at
-  rules : Bool → ℕ → Bool → Bool → List ℕ → List Rule
-  rules cut tag impossible short b =
+  rules : Bool → Kind → Bool → Bool → List ℕ → List Rule
+  rules cut k impossible short b =
       overrun when cut
-      ∷ unknownTag when not (known tag)
-      ∷ misplaced when not (inPlace f c tag)
+      ∷ unknownTag when not (known k)
+      ∷ misplaced when not (inPlace f c k)
       ∷ wrongLength when impossible
       ∷ overrun when short
-      ∷ wrongCount when leb (most tag) (howMany c tag)
-      ∷ bodyRules c at tag b
+      ∷ wrongCount when leb (most k) (howMany c k)
+      ∷ bodyRules c at k b
 
   abbrev impossible : List ℕ → Bool
-  impossible m = not (has (lengths (byte m 0)) (size m))
+  impossible m = not (has (lengths (kind m)) (size m))
 
   abbrev short : List ℕ → Bool
   short m = ltb (length m) (3 + size m)
@@ -89,11 +92,11 @@ module _ (f : File) (c : Contents) (at w : ℕ) (l : List ℕ) (h : 45 ≤ w) wh
   cut-take : ltb (length (take w l)) 3 ≡ ltb (length l) 3
   cut-take = ltb-take w 3 l (omega arith)
 
-  tag-take : byte (take w l) 0 ≡ byte l 0
-  tag-take = byte-take 0 (omega arith)
+  kind-take : kind (take w l) ≡ kind l
+  kind-take = ap kindOf (byte-take 0 (omega arith))
 
   impossible-take : impossible (take w l) ≡ impossible l
-  impossible-take i = not (has (lengths (tag-take i)) (size-take i))
+  impossible-take i = not (has (lengths (kind-take i)) (size-take i))
 
   short-take : size l ≤ 42 → short (take w l) ≡ short l
   short-take s = ap (λ (n : ℕ). ltb (length (take w l)) (3 + n)) size-take ∙ ltb-take w (3 + size l) l (omega arith)
@@ -105,11 +108,11 @@ module _ (f : File) (c : Contents) (at w : ℕ) (l : List ℕ) (h : 45 ≤ w) wh
     where
       go : (b : Bool) → impossible l ≡ b → verdict (fieldRules f c at (take w l)) ≡ verdict (fieldRules f c at l)
       go true e =
-          ap verdict (λ i. rules (cut-take i) (tag-take i) ((impossible-take ∙ e) i) (short (take w l)) (body (take w l)))
-          ∙ ap verdict (λ i. rules (ltb (length l) 3) (byte l 0) (sym e i) (short l) (body l))
+          ap verdict (λ i. rules (cut-take i) (kind-take i) ((impossible-take ∙ e) i) (short (take w l)) (body (take w l)))
+          ∙ ap verdict (λ i. rules (ltb (length l) 3) (kind l) (sym e i) (short l) (body l))
       go false e =
-          let s = lengths-small (byte l 0) (size l) (not-false (has (lengths (byte l 0)) (size l)) e) in
-          ap verdict (λ i. rules (cut-take i) (tag-take i) (impossible-take i) (short-take s i) (body-take s i))
+          let s = lengths-small (kind l) (size l) (not-false (has (lengths (kind l)) (size l)) e) in
+          ap verdict (λ i. rules (cut-take i) (kind-take i) (impossible-take i) (short-take s i) (body-take s i))
 
 -- ---- the reading of the beginning
 
@@ -146,13 +149,13 @@ readFields-window (suc n) at (suc w) f (b ∷ l) c p h =
         → then (answerUnless v (spot f at) (now (b ∷ take w l))) (on (b ∷ take w l)) ≡ then (answerUnless v (spot f at) (now (b ∷ l))) (on (b ∷ l))
     go (suc v) e r = refl
     go zero e r =
-        (λ i. readFields n f (at + (3 + sized i)) (drop (3 + sized i) (b ∷ take w l)) (more c at b (body-take f c at (suc w) (b ∷ l) wide small i)))
+        (λ i. readFields n f (at + (3 + sized i)) (drop (3 + sized i) (b ∷ take w l)) (more c at (kindOf b) (body-take f c at (suc w) (b ∷ l) wide small i)))
         ∙ ap (λ (m : List ℕ). readFields n f (past at (b ∷ l)) m (now (b ∷ l)))
         (drop-take-less (3 + size (b ∷ l)) (suc w) (b ∷ l) (omega (arith, small, wide)))
         ∙ r (within-more f c at (b ∷ l) (e refl) p) (omega (arith, small, wide, h))
       where
         small : size (b ∷ l) ≤ 42
-        small = lengths-small b (size (b ∷ l)) (e refl .a-length)
+        small = lengths-small (kindOf b) (size (b ∷ l)) (e refl .a-length)
 
 pub read-window : (w : ℕ) (f : File) (l : List ℕ) → 864 ≤ w → read f (take w l) ≡ read f l
 unfolding read

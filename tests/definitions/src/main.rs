@@ -10,7 +10,7 @@ use std::process::ExitCode;
 
 /// The definitions that computing has to see through, by the module that declares them.
 const OPENED: [(&str, &str); 7] = [
-    ("Files", "headOf, trackOf, stopOf, trainOf, pairOf, tableOf, known, inPlace, lengths, most, howMany, headRules, stationRules, unknown, leads, trackRules, pathBroken, timesBroken, trainRules, tableRules, bodyRules, fieldRules, more, endRules, readField, readFields, read, tablesOf, caseOf, files"),
+    ("Files", "headOf, trackOf, stopOf, trainOf, pairOf, tableOf, kindOf, known, inPlace, lengths, most, howMany, headRules, stationRules, unknown, leads, trackRules, pathBroken, timesBroken, trainRules, tableRules, bodyRules, fieldRules, more, endRules, readField, readFields, read, tablesOf, caseOf, files"),
     ("Turns", "same, way, ahead, lastStation, elements, capacity, ended, asks, sooner, dueAgain, leaving, entered, arriving, goesFirst, next, turns, visit, minute, minutes, runFrom"),
     ("Single", "waits, firstMarks, trainsOn, enters, serveTrain, singleRules, single as singleState, arrival"),
     ("Joint", "common, without, inside, apart, outsides, choicesIn, whole, weightOf, weight, total, firstList, carry, meets, pieces, serveEntry, checkList, jointRules, joint, weightAt"),
