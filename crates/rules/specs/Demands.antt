@@ -9,7 +9,7 @@ use lib.ListN.{length}
 use lib.Dec.{ltb, eqb}
 use Rattle.rules.specs.Lists.{one, each, keep}
 use Rattle.rules.specs.Files.{Case}
-use Rattle.rules.specs.Turns.{Place, same, Mark, capacity, elements, ended, asks, Arrival, arrives, State, state, Row, row, items, quiet, Visit, visiting, Turn, Rules, next, serveNext, visit, minutes}
+use Rattle.rules.specs.Turns.{Place, same, Mark, capacity, paired, elements, ended, asks, Arrival, arrives, State, state, Row, row, items, quiet, Visit, visiting, Turn, Rules, next, serveNext, visit, minutes}
 use Rattle.rules.specs.Turns.Place.{station, track}
 use Rattle.rules.specs.Turns.Turn.{nobody, somebody}
 use Rattle.rules.specs.Single.{trainsOn, single, arrival}
@@ -72,6 +72,8 @@ pub record Simulates (C : Case) (x : List ℕ) (m : ℕ) : Type 0 where
   -- no station and no track holds more trains, standing or blocking, than its capacity
   pub stations : (i : ℕ) → trainsOn C (station i) (view x (joint C m .list)) ≤ capacity C (station i)
   pub tracks : (j : ℕ) → trainsOn C (track j) (view x (joint C m .list)) ≤ capacity C (track j)
+  -- no two tracks of a pair both hold a train, standing or blocking (request 1 of 02)
+  pub pairs : (i j : ℕ) → paired C (track i) (track j) ≡ true → 0 < trainsOn C (track i) (view x (joint C m .list)) → trainsOn C (track j) (view x (joint C m .list)) ≡ 0
 
 -- ---- the lists that a run goes through, step by step beside `turns`, `visit`, `minute`, `minutes` and `runFrom`
 

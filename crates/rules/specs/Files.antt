@@ -1,13 +1,13 @@
--- 01, "Files": fields, their bodies, the reading of a case and of a book, and the table of a train.
+-- 01, "Files", and 02, request 1: fields, their bodies, the reading of a case and of a book, and the table of a train.
 -- A file is the list of its bytes. Assumes nothing: these are definitions.
 use mathlib.Core.Bool.{Bool, true, false, not, _&&_, _||_, cond}
 use mathlib.Core.List.{List, [], _∷_, _++_, map}
 use Prim.Native.Nat.{ℕ, zero, suc, _+_, _-_, _*_, _/_}
 use lib.ListN.{length, getD, take, drop}
 use lib.Dec.{leb, ltb, eqb}
-use Rattle.rules.specs.Lists.{one, keep, any, sum, span, below, has}
+use Rattle.rules.specs.Lists.{one, each, keep, any, sum, span, below, has}
 use Rattle.rules.specs.Refusals.{number, Rule, _when_, Spot, Result, refuse, then, judged}
-use Rattle.rules.specs.Refusals.Fault.{overrun, unknownTag, misplaced, wrongLength, wrongCount, outOfRange, wrongEnds, wrongPath, wrongTimes, wrongTable, noTable}
+use Rattle.rules.specs.Refusals.Fault.{overrun, unknownTag, misplaced, wrongLength, wrongCount, outOfRange, wrongEnds, wrongPath, wrongTimes, wrongTable, noTable, wrongCouple}
 use Rattle.rules.specs.Refusals.Result.{answer}
 
 -- ---- what the fields hold
@@ -42,6 +42,11 @@ pub record Table : Type 0 where
   pub type : ℕ
   pub pairs : List Pair
 
+-- two tracks, by their numbers, that are coupled: the two directions on the same rails
+pub record Couple : Type 0 where
+  pub first : ℕ
+  pub second : ℕ
+
 -- what a file holds so far, each kind in the order of its fields; `rank` is the last field's, 0 before the first. A station is its capacity
 pub record Contents : Type 0 where
   pub rank : ℕ
@@ -50,6 +55,7 @@ pub record Contents : Type 0 where
   pub tracks : List Track
   pub trains : List Train
   pub tables : List Table
+  pub couples : List Couple
 
 -- ---- bodies: numbers are big-endian
 
@@ -90,6 +96,10 @@ pairOf b = record { delay = byte b 0; weight = byte b 1 }
 unfoldable pub tableOf : List ℕ → Table
 tableOf b = record { type = byte b 0; pairs = map (λ k. pairOf (drop (1 + 2 * k) b)) (below ((length b - 1) / 2)) }
 
+-- two track numbers (1 each)
+unfoldable pub coupleOf : List ℕ → Couple
+coupleOf b = record { first = byte b 0; second = byte b 1 }
+
 -- ---- which fields there may be
 
 pub data File : Type 0 where
@@ -107,12 +117,12 @@ spot f at = record { file = fileNumber f; place = at }
 
 -- the kinds of fields
 pub data Kind : Type 0 where
-  head station track train table : Kind
+  head station track train table couple : Kind
   noField : Kind  -- of a tag that there is not
 
--- the kind of the fields with the tag: 1 is a head, 2 a station, 3 a track, 4 a train, 5 a delay table
+-- the kind of the fields with the tag: 1 is a head, 2 a station, 3 a track, 4 a train, 5 a delay table, 6 a couple
 unfoldable pub kindOf : ℕ → Kind
-kindOf tag = getD (noField ∷ head ∷ station ∷ track ∷ train ∷ table ∷ []) tag noField
+kindOf tag = getD (noField ∷ head ∷ station ∷ track ∷ train ∷ table ∷ couple ∷ []) tag noField
 
 -- the place of a kind in the order of fields
 abbrev pub rank : Kind → ℕ
@@ -122,6 +132,7 @@ rank station = 2
 rank track = 3
 rank train = 4
 rank table = 5
+rank couple = 6
 
 -- whether a field of kind k has its place among those of kind j
 abbrev pub is : Kind → Kind → Bool
@@ -144,6 +155,7 @@ lengths station = 1 ∷ []
 lengths track = 3 ∷ []
 lengths train = map (λ n. 2 + 5 * n) (span 7 2)
 lengths table = map (λ n. 1 + 2 * n) (span 8 1)
+lengths couple = 2 ∷ []
 
 abbrev pub mostTrains : ℕ
 mostTrains = 7
@@ -156,6 +168,7 @@ most station = 24
 most track = 40
 most train = mostTrains
 most table = 8
+most couple = 20
 
 -- how many there are so far; heads are not counted, since a second one is refused 3 by its place
 unfoldable pub howMany : Contents → Kind → ℕ
@@ -165,6 +178,7 @@ howMany c station = length (c .stations)
 howMany c track = length (c .tracks)
 howMany c train = length (c .trains)
 howMany c table = length (c .tables)
+howMany c couple = length (c .couples)
 
 -- ---- what is sound in a body
 
@@ -244,6 +258,29 @@ tableRules c d =
     || any (λ e. leb (d .type) (e .type)) (c .tables))
     ∷ []
 
+-- a track that is not there
+abbrev pub noTrack : Track
+noTrack = record { from = 0; to = 0; capacity = 0 }
+
+-- the track with the number
+unfoldable pub trackAt : Contents → ℕ → Track
+trackAt c j = getD (c .tracks) j noTrack
+
+-- the tracks that stand in couples
+unfoldable pub coupled : List Couple → List ℕ
+coupled cs = each (λ p. p .first ∷ p .second ∷ []) cs
+
+-- two tracks make no couple: one of them is unknown, their ends don't mirror, or their capacities are unequal
+unfoldable pub unlike : Contents → ℕ → ℕ → Bool
+unlike c i j =
+    leb (length (c .tracks)) i || leb (length (c .tracks)) j
+    || not (leads (trackAt c j .to) (trackAt c j .from) (trackAt c i))
+    || not (eqb (trackAt c i .capacity) (trackAt c j .capacity))
+
+-- two known tracks whose ends mirror, of equal capacity, neither of them already coupled
+unfoldable pub coupleRules : Contents → Couple → List Rule
+coupleRules c p = wrongCouple when (unlike c (p .first) (p .second) || has (coupled (c .couples)) (p .first) || has (coupled (c .couples)) (p .second)) ∷ []
+
 -- the rules of the body b of a field of the kind, at offset `at`, where the file holds c before it
 unfoldable pub bodyRules : Contents → ℕ → Kind → List ℕ → List Rule
 bodyRules c at noField b = []
@@ -252,6 +289,7 @@ bodyRules c at station b = stationRules (byte b 0)
 bodyRules c at track b = trackRules c (trackOf b)
 bodyRules c at train b = trainRules c (trainOf at b)
 bodyRules c at table b = tableRules c (tableOf b)
+bodyRules c at couple b = coupleRules c (coupleOf b)
 
 -- ---- reading
 
@@ -285,6 +323,7 @@ more c at k b = record {
   tracks = c .tracks ++ one (is track k) (trackOf b);
   trains = c .trains ++ one (is train k) (trainOf at b);
   tables = c .tables ++ one (is table k) (tableOf b);
+  couples = c .couples ++ one (is couple k) (coupleOf b);
 }
 
 -- at the end of a case, no head, station or train
@@ -314,6 +353,7 @@ empty = record {
   tracks = [];
   trains = [];
   tables = [];
+  couples = [];
 }
 
 -- The reading of a whole file. Each turn takes a field, which has at least three bytes, or the end, so one turn more than there are bytes suffices:
@@ -328,6 +368,7 @@ pub record Case : Type 0 where
   pub head : Head
   pub stations : List ℕ
   pub tracks : List Track
+  pub couples : List Couple
   pub trains : List Train
   pub tables : List (List Pair)
 
@@ -346,6 +387,7 @@ caseOf c k = record {
   head = c .head;
   stations = c .stations;
   tracks = c .tracks;
+  couples = c .couples;
   trains = c .trains;
   tables = map (λ t. firstPairs (tablesOf c k (t .type))) (c .trains);
 }

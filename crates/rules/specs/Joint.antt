@@ -1,4 +1,4 @@
--- 01, "The joint run": all choices of delays together, entry by entry. Assumes nothing: these are definitions.
+-- 01, "The joint run", and 02, request 1: all choices of delays together, entry by entry. Assumes nothing: these are definitions.
 use mathlib.Core.Bool.{Bool, true, false, not, _&&_, cond}
 use mathlib.Core.List.{List, [], _∷_, _++_, map}
 use Prim.Native.Nat.{ℕ, suc, _+_, _*_, _^_}
@@ -8,7 +8,7 @@ use Rattle.rules.specs.Lists.{one, each, keep, any, sum, below, has}
 use Rattle.rules.specs.Refusals.{_when_, verdict}
 use Rattle.rules.specs.Refusals.Fault.{noRoom}
 use Rattle.rules.specs.Files.{Case}
-use Rattle.rules.specs.Turns.{Place, same, Mark, capacity, entered, Arrival, arrives, arriving, Served, served, State, Rules, runFrom}
+use Rattle.rules.specs.Turns.{Place, same, Mark, capacity, paired, entered, Arrival, arrives, arriving, Served, served, State, Rules, runFrom}
 use Rattle.rules.specs.Turns.Place.{gone}
 use Rattle.rules.specs.Single.{pairAt, waits}
 
@@ -135,10 +135,25 @@ carry cap (q ∷ qs) n p =
 unfoldable pub meets : Place → ℕ → List Entry → List Cover
 meets e k rs = each (λ r. one (not (eqb (r .mark .train) k) && same (r .mark .place) e) (r .cover)) rs
 
--- what becomes of an asking entry r: a piece starts as its whole cover with count 0; the way out has no limit
+-- the same of those that stand on or block the partner of e
+unfoldable pub meetsAcross : Case → Place → ℕ → List Entry → List Cover
+meetsAcross C e k rs = each (λ r. one (not (eqb (r .mark .train) k) && paired C e (r .mark .place)) (r .cover)) rs
+
+-- What becomes of the piece p, carried through the partner's covers still to meet (request 1 of 02). With the next, q, no common choice: it goes on. Else the inside
+-- is held at once, and then the outside pieces go on. No piece enters before the last of them is passed; what becomes of it then, `on` says.
+unfoldable pub across : (Cover → List Piece) → List Cover → Cover → List Piece
+across on [] p = on p
+across on (q ∷ qs) p =
+    let c = inside p q in
+    cond (apart c) (across on qs p) (piece c true ∷ each (across on qs) (outsides p c))
+
+-- what becomes of an asking entry r: it first meets the partner's entries, where the track is coupled; then a piece starts with count 0 and meets the element's own;
+-- the way out has no limit
 unfoldable pub pieces : Case → Place → List Entry → Entry → List Piece
 pieces C e rs r =
-    cond (same e gone) (piece (r .cover) false ∷ []) (carry (capacity C e) (meets e (r .mark .train) rs) 0 (r .cover))
+    let k = r .mark .train in
+    cond (same e gone) (piece (r .cover) false ∷ [])
+    (across (carry (capacity C e) (meets e k rs) 0) (meetsAcross C e k rs) (r .cover))
 
 -- the same arrival, of a piece with the cover p
 abbrev pub covered : Cover → Arrival Mark → Arrival Entry

@@ -10,9 +10,9 @@ use Rattle.rules.specs.Lists.{count}
 use Rattle.rules.specs.Refusals.{Result}
 use Rattle.rules.specs.Refusals.Result.{refused, answer}
 use Rattle.rules.specs.Files.{headOf, trackOf, stopOf, trainOf, pairOf, tableOf, kindOf, known, inPlace, lengths, most, howMany, headRules, stationRules, unknown, leads, trackRules, pathBroken, timesBroken, trainRules, tableRules, bodyRules, fieldRules, more, endRules, readField, readFields, read, tablesOf, caseOf, files}
-use Rattle.rules.specs.Turns.{same, way, ahead, lastStation, elements, capacity, ended, asks, sooner, dueAgain, leaving, entered, arriving, goesFirst, next, turns, visit, minute, minutes, runFrom}
-use Rattle.rules.specs.Single.{waits, firstMarks, trainsOn, enters, serveTrain, singleRules, single, arrival}
-use Rattle.rules.specs.Joint.{common, without, inside, apart, outsides, choicesIn, whole, weightOf, weight, total, firstList, carry, meets, pieces, serveEntry, checkList, jointRules, joint, weightAt}
+use Rattle.rules.specs.Turns.{same, way, ahead, lastStation, elements, capacity, names, paired, ended, asks, sooner, dueAgain, leaving, entered, arriving, goesFirst, next, turns, visit, minute, minutes, runFrom}
+use Rattle.rules.specs.Single.{waits, firstMarks, trainsOn, partnerHeld, enters, serveTrain, singleRules, single, arrival}
+use Rattle.rules.specs.Joint.{common, without, inside, apart, outsides, choicesIn, whole, weightOf, weight, total, firstList, carry, meets, meetsAcross, across, pieces, serveEntry, checkList, jointRules, joint, weightAt}
 use Rattle.rules.specs.Listing.{decimal, notArrived, trainLines, listing}
 use Rattle.rules.specs.Calls.{choiceBroken, noSuchTrain, singleRun, stoppedRun, wholeRun, textOf}
 
@@ -82,5 +82,5 @@ points =
     ∷ []
 
 pub every-point : map (λ p. ask (p .question)) points ≡ map (λ p. p .answer) points
-unfolding points ask shift headOf trackOf stopOf trainOf pairOf tableOf kindOf known inPlace lengths most howMany headRules stationRules unknown leads trackRules pathBroken timesBroken trainRules tableRules bodyRules fieldRules more endRules readField readFields read tablesOf caseOf files same way ahead lastStation elements capacity ended asks sooner dueAgain leaving entered arriving goesFirst next turns visit minute minutes runFrom waits firstMarks trainsOn enters serveTrain singleRules single arrival common without inside apart outsides choicesIn whole weightOf weight total firstList carry meets pieces serveEntry checkList jointRules joint weightAt decimal notArrived trainLines listing choiceBroken noSuchTrain singleRun stoppedRun wholeRun textOf
+unfolding points ask shift headOf trackOf stopOf trainOf pairOf tableOf kindOf known inPlace lengths most howMany headRules stationRules unknown leads trackRules pathBroken timesBroken trainRules tableRules bodyRules fieldRules more endRules readField readFields read tablesOf caseOf files same way ahead lastStation elements capacity names paired ended asks sooner dueAgain leaving entered arriving goesFirst next turns visit minute minutes runFrom waits firstMarks trainsOn partnerHeld enters serveTrain singleRules single arrival common without inside apart outsides choicesIn whole weightOf weight total firstList carry meets meetsAcross across pieces serveEntry checkList jointRules joint weightAt decimal notArrived trainLines listing choiceBroken noSuchTrain singleRun stoppedRun wholeRun textOf
 every-point = refl

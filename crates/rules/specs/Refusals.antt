@@ -1,4 +1,4 @@
--- 01, "Refusal numbers": each refusal named once, with 01's number, and which refusal comes of several broken rules: that of the first.
+-- 01, "Refusal numbers": each refusal named once, with its number in 01 or 02, and which refusal comes of several broken rules: that of the first.
 -- Assumes nothing: these are definitions.
 use mathlib.Core.Bool.{Bool, true, false}
 use mathlib.Core.List.{List, [], _∷_}
@@ -7,14 +7,14 @@ use Prim.Native.Nat.{ℕ, zero, suc}
 infix 70 _when_
 pub data Fault : Type 0 where
   overrun unknownTag misplaced wrongLength wrongCount outOfRange wrongEnds wrongPath wrongTimes wrongTable noTable : Fault
-  noRoom tooShort wrongChoice noTrain stopTooLate : Fault
+  noRoom tooShort wrongChoice noTrain stopTooLate wrongCouple : Fault
 
 abbrev pub number : Fault → ℕ
 number overrun = 1  -- a field's header or body runs past the end
-number unknownTag = 2  -- tag 0 or above 5
+number unknownTag = 2  -- tag 0 or above 6
 number misplaced = 3  -- in a case: first field no head, a second head or a falling tag; in a book: a tag other than 5
 number wrongLength = 4  -- length not possible for the tag
-number wrongCount = 5  -- one station, track, train or table too many; at the end of a case, no head, station or train
+number wrongCount = 5  -- one station, track, train, table or couple too many; at the end of a case, no head, station or train
 number outOfRange = 6  -- T, safety time, room or capacity out of range
 number wrongEnds = 7  -- track with an unknown end, equal ends, or the ends of an earlier track
 number wrongPath = 8  -- path with an unknown or repeated station or a missing track
@@ -27,6 +27,7 @@ number tooShort = 14  -- lent memory too short
 number wrongChoice = 15  -- choice with a wrong count or an index past the table
 number noTrain = 16  -- no such train
 number stopTooLate = 17  -- stop minute above T
+number wrongCouple = 18  -- couple with an unknown track, ends that don't mirror, unequal capacities, or a track already coupled
 
 -- a rule: what it is refused for, and whether it is broken
 pub record Rule : Type 0 where

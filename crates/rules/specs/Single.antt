@@ -1,5 +1,5 @@
--- 01, "The single run": one choice of delays, minute by minute from 0 to T. Assumes nothing: these are definitions.
-use mathlib.Core.Bool.{Bool, _&&_, _||_, cond}
+-- 01, "The single run", and 02, request 1: one choice of delays, minute by minute from 0 to T. Assumes nothing: these are definitions.
+use mathlib.Core.Bool.{Bool, not, _&&_, _||_, cond}
 use mathlib.Core.List.{List, [], _∷_, map}
 use mathlib.Core.Option.{Option, none, some}
 use Prim.Native.Nat.{ℕ, _+_}
@@ -7,7 +7,7 @@ use lib.ListN.{length, getD}
 use lib.Dec.{ltb, eqb}
 use Rattle.rules.specs.Lists.{any, count, below}
 use Rattle.rules.specs.Files.{Stop, Pair, Case}
-use Rattle.rules.specs.Turns.{Place, same, Mark, stands, trainAt, capacity, entered, Arrival, arriving, Served, served, State, Rules, runFrom}
+use Rattle.rules.specs.Turns.{Place, same, Mark, stands, trainAt, capacity, paired, entered, Arrival, arriving, Served, served, State, Rules, runFrom}
 use Rattle.rules.specs.Turns.Place.{outside, gone}
 
 -- A choice takes one pair from each train's table. It is the list of the pairs' indices, counted from 0, by train number; this is the pair at index i of
@@ -32,14 +32,19 @@ firstMarks C x = map (λ k. waits C k (getD x k 0)) (below (length (C .trains)))
 unfoldable pub trainsOn : Case → Place → List Mark → ℕ
 trainsOn C e ms = count (λ k. any (λ m. eqb (m .train) k && same (m .place) e) ms) (below (length (C .trains)))
 
--- 3. a train enters if fewer trains stand on or block the element than its capacity; the way out has no limit
-unfoldable pub enters : Case → Place → List Mark → Bool
-enters C e ms = same e gone || ltb (trainsOn C e ms) (capacity C e)
+-- another train than k stands on or blocks the partner of e
+unfoldable pub partnerHeld : Case → Place → ℕ → List Mark → Bool
+partnerHeld C e k ms = any (λ m. not (eqb (m .train) k) && paired C e (m .place)) ms
+
+-- 3. train k enters if fewer trains stand on or block the element than its capacity and, besides, on a coupled track (request 1 of 02), no other train stands on
+-- or blocks the partner; the way out has no limit
+unfoldable pub enters : Case → Place → ℕ → List Mark → Bool
+enters C e k ms = same e gone || (ltb (trainsOn C e ms) (capacity C e) && not (partnerHeld C e k ms))
 
 -- a train that asks enters, or stays in its row as it is
 unfoldable pub serveTrain : Case → ℕ → Place → List Mark → Mark → Served Mark
 serveTrain C t e ms m =
-    cond (enters C e ms) (served [] (entered C t e m) (arriving C t e m)) (served (m ∷ []) [] [])
+    cond (enters C e (m .train) ms) (served [] (entered C t e m) (arriving C t e m)) (served (m ∷ []) [] [])
 
 -- the items of the single run are marks, and it refuses no list
 unfoldable pub singleRules : Case → Rules Mark

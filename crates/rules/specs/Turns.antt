@@ -1,4 +1,5 @@
--- 01, "The single run", steps 1 to 4: what a minute is made of, for the single run and for the joint run, whose "minutes, elements and order are as above".
+-- 01, "The single run", steps 1 to 4, and 02, request 1, which tracks are a pair: what a minute is made of, for the single run and for the joint run, whose
+-- "minutes, elements and order are as above".
 -- A run goes on with a list of items. Each item shows a mark: a train that stands somewhere, or blocks an element. In the single run the items are marks, in the
 -- joint run entries. Assumes nothing: these are definitions.
 use mathlib.Core.Bool.{Bool, true, false, not, _&&_, _||_, cond}
@@ -8,7 +9,7 @@ use lib.ListN.{length, getD}
 use lib.Dec.{leb, ltb, eqb}
 use Rattle.rules.specs.Lists.{one, keep, any, fold, below}
 use Rattle.rules.specs.Refusals.{firstOf}
-use Rattle.rules.specs.Files.{Track, Stop, Train, Case, leads, lastOf}
+use Rattle.rules.specs.Files.{Track, Stop, Train, Couple, Case, leads, lastOf}
 
 -- ---- places and marks
 
@@ -120,6 +121,14 @@ capacity C outside = 0
 capacity C (station i) = getD (C .stations) i 0
 capacity C (track j) = getD (map (λ r. r .capacity) (C .tracks)) j 0
 capacity C gone = 0
+
+-- the couple names the track e first and the track f second
+unfoldable pub names : Place → Place → Couple → Bool
+names e f c = same e (track (c .first)) && same f (track (c .second))
+
+-- e and f are the two tracks of a pair, so that each is the other's partner
+unfoldable pub paired : Case → Place → Place → Bool
+paired C e f = any (λ c. names e f c || names f e c) (C .couples)
 
 -- ---- what happens in a minute
 
