@@ -3,3 +3,4 @@ pub mod Tables
 pub mod Lookups
 pub mod Places
 pub mod States
+pub mod Partners

@@ -2,10 +2,10 @@
 use mathlib.Core.Path.{_≡_, refl, ap, sym, _∙_}
 use mathlib.Core.Bool.{Bool, cond}
 use mathlib.Core.List.{List, [], _++_, map}
-use Prim.Native.Nat.{ℕ, zero, suc, _+_, _*_, _<_}
+use Prim.Native.Nat.{ℕ, zero, suc, _+_, _*_, _≤_, _<_}
 use native.Mathlib.Nat.{suc-mul}
 use native.Mathlib.Omega.{arith}
-use lib.ListN.{length, getD, length-append, List·getD-append}
+use lib.ListN.{length, getD, length-append, List·getD-append, List·getD-eq-default}
 use lib.Seq.{getD-append-add}
 use lib.Dec.{ltb}
 use borrow.Author.Tests.{lt-ltb}
@@ -16,7 +16,7 @@ use Rattle.rules.specs.Single.{pairAt, firstArrival}
 use Rattle.rules.specs.Figures.{plan}
 use Rattle.theory_lists.specs.Below.{length-span-map, getD-below}
 use Rattle.theory_codes.specs.Codes.{codeOf, placeOf}
-use Rattle.theory_codes.specs.Tables.{order, nextCode, stayOn, perTrain, perPair, headTable, trainTables, pairTables, tables}
+use Rattle.theory_codes.specs.Tables.{order, nextCode, stayOn, partnerCode, perTrain, perPair, headTable, trainTables, pairTables, tables}
 
 -- ---- lists of lists
 
@@ -62,6 +62,9 @@ module _ (C : Case) where
   abbrev stays : List ℕ
   stays = each (λ k. map (stayOn C k) (below 128)) (below 8)
 
+  abbrev partners : List ℕ
+  partners = map (partnerCode C) (below 64)
+
   abbrev front : List ℕ
   front = headTable C ++ trainTables C ++ pairTables C
 
@@ -81,15 +84,35 @@ module _ (C : Case) where
   nexts-length : length (front ++ caps ++ nexts) ≡ 1264
   nexts-length = omega (arith, length-append (front ++ caps) nexts, caps-length, block-length (nextCode C) 128 8 0)
 
+  stays-length : length (front ++ caps ++ nexts ++ stays) ≡ 2288
+  stays-length = omega (arith, length-append (front ++ caps ++ nexts) stays, nexts-length, block-length (stayOn C) 128 8 0)
+
   -- ---- what stands where
 
-  pub table-stay : (k p : ℕ) → k < 8 → p < 128 → getD (tables C) (1264 + (k * 128 + p)) 0 ≡ stayOn C k p
+  pub table-partner : (e : ℕ) → e < 64 → getD (tables C) (2288 + e) 0 ≡ partnerCode C e
   unfolding tables
-  table-stay k p h l = at-right (front ++ caps ++ nexts) stays 1264 (k * 128 + p) nexts-length ∙ block-at (stayOn C) 128 8 0 k p h l ∙ ap (λ (j : ℕ). stayOn C j p) (omega arith)
+  table-partner e h = at-right (front ++ caps ++ nexts ++ stays) partners 2288 e stays-length ∙ getD-below (partnerCode C) 64 e 0 h
+
+  -- the way out has none, nor has a place past it
+  pub table-past : (e : ℕ) → 64 ≤ e → getD (tables C) (2288 + e) 0 ≡ 0
+  unfolding tables
+  table-past e h =
+      at-right (front ++ caps ++ nexts ++ stays) partners 2288 e stays-length
+      ∙ List·getD-eq-default partners 0 {n = e} (omega (arith, length-span-map (partnerCode C) 64 0))
+
+  in-stays : (i : ℕ) → i < 2288 → getD (tables C) i 0 ≡ getD (front ++ caps ++ nexts ++ stays) i 0
+  unfolding tables
+  in-stays i h = at-left (front ++ caps ++ nexts ++ stays) partners 2288 i stays-length h
+
+  pub table-stay : (k p : ℕ) → k < 8 → p < 128 → getD (tables C) (1264 + (k * 128 + p)) 0 ≡ stayOn C k p
+  table-stay k p h l =
+      in-stays (1264 + (k * 128 + p)) (omega arith)
+      ∙ at-right (front ++ caps ++ nexts) stays 1264 (k * 128 + p) nexts-length
+      ∙ block-at (stayOn C) 128 8 0 k p h l
+      ∙ ap (λ (j : ℕ). stayOn C j p) (omega arith)
 
   in-nexts : (i : ℕ) → i < 1264 → getD (tables C) i 0 ≡ getD (front ++ caps ++ nexts) i 0
-  unfolding tables
-  in-nexts i h = at-left (front ++ caps ++ nexts) stays 1264 i nexts-length h
+  in-nexts i h = in-stays i (omega arith) ∙ at-left (front ++ caps ++ nexts) stays 1264 i nexts-length h
 
   in-caps : (i : ℕ) → i < 240 → getD (tables C) i 0 ≡ getD (front ++ caps) i 0
   in-caps i h = in-nexts i (omega arith) ∙ at-left (front ++ caps) nexts 240 i caps-length h

@@ -1,12 +1,13 @@
 -- What the runs look up of a case, as one list of words. Assumes nothing: these are definitions.
 use mathlib.Core.Bool.{cond}
 use mathlib.Core.List.{List, [], _∷_, _++_, map}
-use Prim.Native.Nat.{ℕ}
+use Prim.Native.Nat.{ℕ, _-_}
 use lib.ListN.{length, getD}
-use lib.Dec.{ltb}
+use lib.Dec.{ltb, eqb}
 use Rattle.rules.specs.Lists.{each, fold, below}
-use Rattle.rules.specs.Files.{Case}
+use Rattle.rules.specs.Files.{Couple, Case}
 use Rattle.rules.specs.Turns.{Leg, trainAt, way, ahead, plannedOn, lastStation, capacity}
+use Rattle.rules.specs.Turns.Place.{track}
 use Rattle.rules.specs.Single.{pairAt, firstArrival}
 use Rattle.rules.specs.Figures.{plan}
 use Rattle.theory_codes.specs.Codes.{codeOf, placeOf, nowhere}
@@ -32,6 +33,15 @@ nextCode C k p = headCode (ahead C k (placeOf p))
 unfoldable pub stayOn : Case → ℕ → ℕ → ℕ
 stayOn C k e = plannedOn (placeOf e) (way C k)
 
+-- the code of the partner of track j, 0 where it has none: 0 is a station's
+abbrev pub partnerIn : ℕ → List Couple → ℕ
+partnerIn j [] = 0
+partnerIn j (c ∷ cs) = cond (eqb j (c .first)) (codeOf (track (c .second))) (cond (eqb j (c .second)) (codeOf (track (c .first))) (partnerIn j cs))
+
+-- the code of the partner of the element with code e, 0 where it has none
+unfoldable pub partnerCode : Case → ℕ → ℕ
+partnerCode C e = cond (ltb e 24) 0 (partnerIn (e - 24) (C .couples))
+
 -- each of n trains' f, and 0 for those up to the eighth that are not there
 abbrev pub perTrain : Case → (ℕ → ℕ) → List ℕ
 perTrain C f = map (λ k. cond (ltb k (length (C .trains))) (f k) 0) (below 8)
@@ -56,7 +66,8 @@ trainTables C =
 abbrev pub pairTables : Case → List ℕ
 pairTables C = perPair C (λ k d. pairAt C k d .delay) ++ perPair C (λ k d. pairAt C k d .weight)
 
--- at 176 the capacity of element e; at 240 the next element of train k at place p, at 240 + k · 128 + p; at 1264 its planned minutes on e likewise
+-- at 176 the capacity of element e; at 240 the next element of train k at place p, at 240 + k · 128 + p; at 1264 its planned minutes on e likewise;
+-- at 2288 the partner of element e
 unfoldable pub tables : Case → List ℕ
 tables C =
     headTable C
@@ -65,3 +76,4 @@ tables C =
     ++ map (λ e. capacity C (placeOf e)) (below 64)
     ++ each (λ k. map (nextCode C k) (below 128)) (below 8)
     ++ each (λ k. map (stayOn C k) (below 128)) (below 8)
+    ++ map (partnerCode C) (below 64)

@@ -25,8 +25,8 @@ module _ (cs bk : List ℕ) (C : Case) (accepted : files cs bk ≡ answer C) whe
   -- ---- demand 3
 
   -- After every minute m and for every choice x: each train has exactly one standing entry that covers the choice, with the place and due minute that the
-  -- single run gives it (`standing`); the blocks that cover the choice are those of the single run (`blocks`), none twice (`once`); and no station or track
-  -- holds more trains, standing or blocking, than its capacity (`within`).
+  -- single run gives it (`standing`); the blocks that cover the choice are those of the single run (`blocks`), none twice (`once`); no station or track
+  -- holds more trains, standing or blocking, than its capacity (`stations`, `tracks`); and of no pair do both tracks hold a train (`pairs`, request 1 of 02).
   pub demand-3 : (x : List ℕ) → Choice C x → (m : ℕ) → Simulates C x m
   demand-3 x choice m = simulation C case-sound x choice m
 

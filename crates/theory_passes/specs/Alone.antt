@@ -14,7 +14,7 @@ use Rattle.rules.specs.Refusals.{firstOf}
 use Rattle.rules.specs.Files.{Case}
 use Rattle.rules.specs.Turns.{Place, same, Mark, capacity, entered, arriving, Served, served, State, state, Arrival}
 use Rattle.rules.specs.Turns.Place.{gone}
-use Rattle.rules.specs.Single.{enters, serveTrain, singleRules}
+use Rattle.rules.specs.Single.{partnerHeld, enters, serveTrain, singleRules}
 use Rattle.rules.specs.Demands.{isStanding}
 use Rattle.theory_lists.specs.Each.{each-append}
 use Rattle.theory_lists.specs.Every.{Every, every-all, every-more}
@@ -72,7 +72,7 @@ module _ (C : Case) (t : ℕ) (e : Place) (k : ℕ) where
   unfolding goes
   passTrain-nobody s h =
       passTrain-stays s
-      (every-more (λ m. asksFor C t e k m ≡ false) (λ m. goes C t e k (s .list) m ≡ false) (λ m q. ap (λ (z : Bool). z && admits C e (s .list)) q) (s .list) h)
+      (every-more (λ m. asksFor C t e k m ≡ false) (λ m. goes C t e k (s .list) m ≡ false) (λ m q. ap (λ (z : Bool). z && admits C e k (s .list)) q) (s .list) h)
 
   -- ---- in order
 
@@ -97,9 +97,9 @@ module _ (C : Case) (t : ℕ) (e : Place) (k : ℕ) where
           nobody m false r = omega arith
 
   -- the marks on an element are its trains
-  pub enters-admits : (ms : List Mark) (v : List (Arrival Mark)) → Orderly C ms v → enters C e ms ≡ admits C e ms
+  pub enters-admits : (ms : List Mark) (v : List (Arrival Mark)) → Orderly C ms v → enters C e k ms ≡ admits C e k ms
   unfolding enters admits
-  enters-admits ms v o = ap (λ (n : ℕ). same e gone || ltb n (capacity C e)) (trainsOn-count C ms v o e)
+  enters-admits ms v o = ap (λ (n : ℕ). same e gone || (ltb n (capacity C e) && not (partnerHeld C e k ms))) (trainsOn-count C ms v o e)
 
   -- ---- the walk
 
@@ -128,7 +128,7 @@ module _ (C : Case) (t : ℕ) (e : Place) (k : ℕ) where
           ∙ ap (walkOne C (singleRules C) t e (λ d w. walk C (singleRules C) t e k d (a .back) w) (a .front) (a .the) (a .back) [] (s .arrived) (s .met)) (a .passes)
           ∙ walk-nobody C (singleRules C) t e k (a .front ++ u .rows) (a .back) ([] ++ u .added) (s .arrived ++ u .arrived) (firstOf (ltb 0 (s .met)) (s .met) 0) (a .back-none)
           ∙ ap₂ (λ (w : Served Mark) (n : ℕ). after w n) verdict (first-none (s .met))
-          ∙ go (admits C e (s .list)) refl
+          ∙ go (admits C e k (s .list)) refl
         where
           cur : List Mark
           cur = a .front ++ (a .the ∷ (a .back ++ []))
@@ -145,13 +145,13 @@ module _ (C : Case) (t : ℕ) (e : Place) (k : ℕ) where
           after : Served Mark → ℕ → State Mark
           after w n = state ((a .front ++ w .rows) ++ (a .back ++ ([] ++ w .added))) (s .arrived ++ w .arrived) n
 
-          verdict : u ≡ came (admits C e (s .list))
-          verdict = ap came (ap (enters C e) here ∙ enters-admits (s .list) (s .arrived) o)
+          verdict : u ≡ came (admits C e k (s .list))
+          verdict = ap came (ap₂ (enters C e) (asksFor-train C t e k (a .the) (a .passes)) here ∙ enters-admits (s .list) (s .arrived) o)
 
-          goes-if : (b : Bool) → admits C e (s .list) ≡ b → (m : Mark) (c : Bool) → asksFor C t e k m ≡ c → goes C t e k (s .list) m ≡ (c && b)
+          goes-if : (b : Bool) → admits C e k (s .list) ≡ b → (m : Mark) (c : Bool) → asksFor C t e k m ≡ c → goes C t e k (s .list) m ≡ (c && b)
           goes-if b q m c r = ap₂ (λ (y z : Bool). y && z) r q
 
-          go : (b : Bool) → admits C e (s .list) ≡ b → after (came b) (s .met) ≡ passTrain C t e k s
+          go : (b : Bool) → admits C e k (s .list) ≡ b → after (came b) (s .met) ≡ passTrain C t e k s
           go true q =
               ap (λ (l : List Mark). state l (s .arrived ++ arriving C t e (a .the)) (s .met))
               (ap (λ (l : List Mark). l ++ (a .back ++ entered C t e (a .the))) (append-nil (a .front)) ∙ sym (append-assoc (a .front) (a .back) (entered C t e (a .the))))

@@ -9,7 +9,7 @@ use lib.Dec.{eqb}
 use Rattle.rules.specs.Lists.{one, each, keep, tick, sum}
 use Rattle.rules.specs.Files.{Case}
 use Rattle.rules.specs.Turns.{Place, same, stands, lastStation, Served, served, State, Arrival, arrives, dueAgain}
-use Rattle.rules.specs.Joint.{Cover, Entry, Piece, meets, weight, weightAt, covered}
+use Rattle.rules.specs.Joint.{Cover, Entry, Piece, meets, meetsAcross, weight, weightAt, covered}
 use Rattle.theory_sound.specs.Facts.{Sound}
 use Rattle.theory_lists.specs.Each.{each-none, each-self}
 use Rattle.theory_lists.specs.Every.{each-every, Every, every-map, every-each, every-one, every-all}
@@ -17,15 +17,16 @@ use Rattle.theory_lists.specs.Sums.{sum-append, sum-each, sum-every, sum-zero, 
 use Rattle.theory_passes.specs.Passes.{asksFor, piecesAmong, passed, passArrived, pass}
 use Rattle.theory_passes.specs.Before.{newMarks, arrivalMarks, serveWith, passed-with}
 
--- the weight of the entering pieces of a cover that meets the covers qs
-unfoldable pub enteringWeight : Case → Place → List Cover → Cover → ℕ
-enteringWeight C e qs p = sum (λ q. weight C (q .cover)) (keep (λ q. not (q .held)) (piecesAmong C e qs p))
+-- the weight of the entering pieces of a cover that meets the partner's covers, `far`, and the element's own, qs
+unfoldable pub enteringWeight : Case → Place → List Cover → List Cover → Cover → ℕ
+enteringWeight C e far qs p = sum (λ q. weight C (q .cover)) (keep (λ q. not (q .held)) (piecesAmong C e far qs p))
 
 -- the weight that arrives in the pass of train k for e in minute t
 unfoldable pub arrivedWeight : Case → ℕ → Place → ℕ → List Entry → ℕ
 arrivedWeight C t e k l =
+    let far = meetsAcross C e k l in
     let qs = meets e k l in
-    cond (same e (lastStation C k)) (sum (λ r. cond (asksFor C t e k (r .mark)) (enteringWeight C e qs (r .cover)) 0) l) 0
+    cond (same e (lastStation C k)) (sum (λ r. cond (asksFor C t e k (r .mark)) (enteringWeight C e far qs (r .cover)) 0) l) 0
 
 -- the weights of more arrivals are added
 weightAt-append : (C : Case) (rs us : List (Arrival Entry)) (k t : ℕ) → weightAt C (rs ++ us) k t ≡ weightAt C rs k t + weightAt C us k t
@@ -40,15 +41,15 @@ weightAt-append C rs us k t =
 
 module _ (C : Case) (sound : Sound C) (t : ℕ) (e : Place) (k : ℕ) where
   -- what arrives of an entry
-  passed-arrived : (qs : List Cover) (r : Entry)
-      → passed C t e k qs r .arrived
-      ≡ cond (asksFor C t e k (r .mark)) (each (λ q. map (covered (q .cover)) (arrivalMarks C t e k)) (keep (λ q. not (q .held)) (piecesAmong C e qs (r .cover)))) []
+  passed-arrived : (far qs : List Cover) (r : Entry)
+      → passed C t e k far qs r .arrived
+      ≡ cond (asksFor C t e k (r .mark)) (each (λ q. map (covered (q .cover)) (arrivalMarks C t e k)) (keep (λ q. not (q .held)) (piecesAmong C e far qs (r .cover)))) []
   unfolding serveWith
-  passed-arrived qs r = ap (λ (s : Served Entry). s .arrived) (passed-with C sound t e k qs r) ∙ go (asksFor C t e k (r .mark))
+  passed-arrived far qs r = ap (λ (s : Served Entry). s .arrived) (passed-with C sound t e k far qs r) ∙ go (asksFor C t e k (r .mark))
     where
       go : (b : Bool)
-          → cond b (serveWith (r .mark) (newMarks C t e k) (arrivalMarks C t e k) (piecesAmong C e qs (r .cover))) (served (r ∷ []) [] []) .arrived
-          ≡ cond b (each (λ q. map (covered (q .cover)) (arrivalMarks C t e k)) (keep (λ q. not (q .held)) (piecesAmong C e qs (r .cover)))) []
+          → cond b (serveWith (r .mark) (newMarks C t e k) (arrivalMarks C t e k) (piecesAmong C e far qs (r .cover))) (served (r ∷ []) [] []) .arrived
+          ≡ cond b (each (λ q. map (covered (q .cover)) (arrivalMarks C t e k)) (keep (λ q. not (q .held)) (piecesAmong C e far qs (r .cover)))) []
       go true = refl
       go false = refl
 
@@ -60,10 +61,16 @@ module _ (C : Case) (sound : Sound C) (t : ℕ) (e : Place) (k : ℕ) where
   pub arrived-here : (l : List Entry) → Every Here (passArrived C t e k l)
   unfolding passArrived arrivalMarks
   arrived-here l =
-      every-each (λ r. Unit) Here (λ r. passed C t e k (meets e k l) r .arrived)
-      (λ r u. subst (Every Here) (sym (passed-arrived (meets e k l) r)) (go (asksFor C t e k (r .mark)) (keep (λ q. not (q .held)) (piecesAmong C e (meets e k l) (r .cover)))))
+      every-each (λ r. Unit) Here (λ r. passed C t e k far qs r .arrived)
+      (λ r u. subst (Every Here) (sym (passed-arrived far qs r)) (go (asksFor C t e k (r .mark)) (keep (λ q. not (q .held)) (piecesAmong C e far qs (r .cover)))))
       l (every-all (λ r. Unit) (λ r. tt) l)
     where
+      far : List Cover
+      far = meetsAcross C e k l
+
+      qs : List Cover
+      qs = meets e k l
+
       go : (b : Bool) (ps : List Piece) → Every Here (cond b (each (λ q. map (covered (q .cover)) (arrivalMarks C t e k)) ps) [])
       go true ps =
           every-each (λ q. Unit) Here (λ q. map (covered (q .cover)) (arrivalMarks C t e k))
@@ -75,17 +82,23 @@ module _ (C : Case) (sound : Sound C) (t : ℕ) (e : Place) (k : ℕ) where
   arrived-sum : (l : List Entry) → sum (λ v. weight C (v .who .cover)) (passArrived C t e k l) ≡ arrivedWeight C t e k l
   unfolding passArrived arrivedWeight enteringWeight arrivalMarks
   arrived-sum l =
-      sum-each f (λ r. passed C t e k (meets e k l) r .arrived) l
-      ∙ sum-every (λ r. Unit) (λ r. sum f (passed C t e k (meets e k l) r .arrived)) (λ r. cond (asksFor C t e k (r .mark)) (cond (same e (lastStation C k)) (pieceSum r) 0) 0)
-      (λ r u. ap (sum f) (passed-arrived (meets e k l) r) ∙ row (asksFor C t e k (r .mark)) (same e (lastStation C k)) (keep (λ q. not (q .held)) (piecesAmong C e (meets e k l) (r .cover))))
+      sum-each f (λ r. passed C t e k far qs r .arrived) l
+      ∙ sum-every (λ r. Unit) (λ r. sum f (passed C t e k far qs r .arrived)) (λ r. cond (asksFor C t e k (r .mark)) (cond (same e (lastStation C k)) (pieceSum r) 0) 0)
+      (λ r u. ap (sum f) (passed-arrived far qs r) ∙ row (asksFor C t e k (r .mark)) (same e (lastStation C k)) (keep (λ q. not (q .held)) (piecesAmong C e far qs (r .cover))))
       l (every-all (λ r. Unit) (λ r. tt) l)
       ∙ last (same e (lastStation C k))
     where
       f : Arrival Entry → ℕ
       f v = weight C (v .who .cover)
 
+      far : List Cover
+      far = meetsAcross C e k l
+
+      qs : List Cover
+      qs = meets e k l
+
       pieceSum : Entry → ℕ
-      pieceSum r = sum (λ q. weight C (q .cover)) (keep (λ q. not (q .held)) (piecesAmong C e (meets e k l) (r .cover)))
+      pieceSum r = sum (λ q. weight C (q .cover)) (keep (λ q. not (q .held)) (piecesAmong C e far qs (r .cover)))
 
       row : (a b : Bool) (ps : List Piece)
           → sum f (cond a (each (λ q. map (covered (q .cover)) (one b (arrives (stands k e (dueAgain C t k e)) t))) ps) []) ≡ cond a (cond b (sum (λ q. weight C (q .cover)) ps) 0) 0

@@ -88,21 +88,21 @@ module _ (C : Case) (sound : Sound C) (t : ℕ) (e : Place) where
     asksFor-arriving m h = ap (λ (j : ℕ). one (same e (lastStation C j)) (arrives (stands j e (dueAgain C t j e)) t)) (asksFor-train C t e k m h)
 
     -- so an asker is served by its pieces and the marks of the pass
-    pub serveAmong-with : (qs : List Cover) (r : Entry) → asksFor C t e k (r .mark) ≡ true
-        → serveAmong C t e qs r ≡ serveWith (r .mark) (newMarks C t e k) (arrivalMarks C t e k) (piecesAmong C e qs (r .cover))
+    pub serveAmong-with : (far qs : List Cover) (r : Entry) → asksFor C t e k (r .mark) ≡ true
+        → serveAmong C t e far qs r ≡ serveWith (r .mark) (newMarks C t e k) (arrivalMarks C t e k) (piecesAmong C e far qs (r .cover))
     unfolding serveAmong serveWith
-    serveAmong-with qs r h =
-        ap₂ (λ (new : List Mark) (home : List (Arrival Mark)). serveWith (r .mark) new home (piecesAmong C e qs (r .cover))) (asksFor-entered (r .mark) h) (asksFor-arriving (r .mark) h)
+    serveAmong-with far qs r h =
+        ap₂ (λ (new : List Mark) (home : List (Arrival Mark)). serveWith (r .mark) new home (piecesAmong C e far qs (r .cover))) (asksFor-entered (r .mark) h) (asksFor-arriving (r .mark) h)
 
     -- and what comes of an entry in the pass follows from its pieces and these marks
-    pub passed-with : (qs : List Cover) (r : Entry)
-        → passed C t e k qs r
-        ≡ cond (asksFor C t e k (r .mark)) (serveWith (r .mark) (newMarks C t e k) (arrivalMarks C t e k) (piecesAmong C e qs (r .cover))) (served (r ∷ []) [] [])
+    pub passed-with : (far qs : List Cover) (r : Entry)
+        → passed C t e k far qs r
+        ≡ cond (asksFor C t e k (r .mark)) (serveWith (r .mark) (newMarks C t e k) (arrivalMarks C t e k) (piecesAmong C e far qs (r .cover))) (served (r ∷ []) [] [])
     unfolding passed
-    passed-with qs r = go (asksFor C t e k (r .mark)) refl
+    passed-with far qs r = go (asksFor C t e k (r .mark)) refl
       where
         go : (b : Bool) → asksFor C t e k (r .mark) ≡ b
-            → cond b (serveAmong C t e qs r) (served (r ∷ []) [] [])
-            ≡ cond b (serveWith (r .mark) (newMarks C t e k) (arrivalMarks C t e k) (piecesAmong C e qs (r .cover))) (served (r ∷ []) [] [])
-        go true h = serveAmong-with qs r h
+            → cond b (serveAmong C t e far qs r) (served (r ∷ []) [] [])
+            ≡ cond b (serveWith (r .mark) (newMarks C t e k) (arrivalMarks C t e k) (piecesAmong C e far qs (r .cover))) (served (r ∷ []) [] [])
+        go true h = serveAmong-with far qs r h
         go false h = refl

@@ -33,7 +33,7 @@ joint-marks C Q t e l a own new = (
 
 pub single-marks : (C : Case) → Marks C (singleRules C)
 unfolding singleRules serveTrain
-single-marks C Q t e l a own new = go (enters C e l)
+single-marks C Q t e l a own new = go (enters C e (a .train) l)
   where
     go : (b : Bool) → let s = cond b (served [] (entered C t e a) (arriving C t e a)) (served (a ∷ []) [] []) in Every Q (s .rows) × Every Q (s .added)
     go true = (tt, new)

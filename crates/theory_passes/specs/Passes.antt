@@ -9,8 +9,8 @@ use Rattle.rules.specs.Refusals.{firstOf}
 use Rattle.rules.specs.Files.{Case}
 use Rattle.rules.specs.Turns.{Place, same, Mark, capacity, ended, asks, entered, arriving, Served, served, State, state, Arrival}
 use Rattle.rules.specs.Turns.Place.{gone}
-use Rattle.rules.specs.Single.{firstMarks}
-use Rattle.rules.specs.Joint.{Cover, Entry, entry, Piece, piece, carry, meets, firstList, checkList, covered}
+use Rattle.rules.specs.Single.{partnerHeld, firstMarks}
+use Rattle.rules.specs.Joint.{Cover, Entry, entry, Piece, piece, carry, meets, meetsAcross, across, firstList, checkList, covered}
 use Rattle.theory_codes.specs.Codes.{placeOf}
 use Rattle.theory_codes.specs.Tables.{order}
 
@@ -20,14 +20,14 @@ asksFor C t e k m = eqb (m .train) k && asks C t e m
 
 -- ---- the joint run
 
--- the pieces of the cover p, carried through the covers qs
-unfoldable pub piecesAmong : Case → Place → List Cover → Cover → List Piece
-piecesAmong C e qs p = cond (same e gone) (piece p false ∷ []) (carry (capacity C e) qs 0 p)
+-- the pieces of the cover p, carried first through the partner's covers, `far`, and then through the element's own, qs
+unfoldable pub piecesAmong : Case → Place → List Cover → List Cover → Cover → List Piece
+piecesAmong C e far qs p = cond (same e gone) (piece p false ∷ []) (across (carry (capacity C e) qs 0) far p)
 
--- what comes of an asker that meets the covers qs
-unfoldable pub serveAmong : Case → ℕ → Place → List Cover → Entry → Served Entry
-serveAmong C t e qs r =
-    let ps = piecesAmong C e qs (r .cover) in
+-- what comes of an asker that meets these covers
+unfoldable pub serveAmong : Case → ℕ → Place → List Cover → List Cover → Entry → Served Entry
+serveAmong C t e far qs r =
+    let ps = piecesAmong C e far qs (r .cover) in
     let entering = keep (λ q. not (q .held)) ps in
     served
     (map (λ q. entry (r .mark) (q .cover)) (keep (λ q. q .held) ps))
@@ -35,17 +35,18 @@ serveAmong C t e qs r =
     (each (λ q. map (covered (q .cover)) (arriving C t e (r .mark))) entering)
 
 -- what comes of an entry in the pass of train k: an asker of that train is served, any other entry stays
-unfoldable pub passed : Case → ℕ → Place → ℕ → List Cover → Entry → Served Entry
-passed C t e k qs r = cond (asksFor C t e k (r .mark)) (serveAmong C t e qs r) (served (r ∷ []) [] [])
+unfoldable pub passed : Case → ℕ → Place → ℕ → List Cover → List Cover → Entry → Served Entry
+passed C t e k far qs r = cond (asksFor C t e k (r .mark)) (serveAmong C t e far qs r) (served (r ∷ []) [] [])
 
 -- the list after the pass: what stands in the rows, then what is added
 unfoldable pub passList : Case → ℕ → Place → ℕ → List Entry → List Entry
 passList C t e k l =
+    let far = meetsAcross C e k l in
     let qs = meets e k l in
-    each (λ r. passed C t e k qs r .rows) l ++ each (λ r. passed C t e k qs r .added) l
+    each (λ r. passed C t e k far qs r .rows) l ++ each (λ r. passed C t e k far qs r .added) l
 
 unfoldable pub passArrived : Case → ℕ → Place → ℕ → List Entry → List (Arrival Entry)
-passArrived C t e k l = let qs = meets e k l in each (λ r. passed C t e k qs r .arrived) l
+passArrived C t e k l = each (λ r. passed C t e k (meetsAcross C e k l) (meets e k l) r .arrived) l
 
 -- one pass of train k for e in minute t; the list is held against the room once, at its end
 unfoldable pub pass : Case → ℕ → Place → ℕ → State Entry → State Entry
@@ -55,13 +56,13 @@ pass C t e k s =
 
 -- ---- the single run
 
--- e is the way out, or fewer marks than its capacity are on it
-unfoldable pub admits : Case → Place → List Mark → Bool
-admits C e ms = same e gone || ltb (count (λ m. same (m .place) e) ms) (capacity C e)
+-- e is the way out, or fewer marks than its capacity are on it and no other train than k is on its partner
+unfoldable pub admits : Case → Place → ℕ → List Mark → Bool
+admits C e k ms = same e gone || (ltb (count (λ m. same (m .place) e) ms) (capacity C e) && not (partnerHeld C e k ms))
 
 -- the mark is train k's, asks for e and enters it
 unfoldable pub goes : Case → ℕ → Place → ℕ → List Mark → Mark → Bool
-goes C t e k ms m = asksFor C t e k m && admits C e ms
+goes C t e k ms m = asksFor C t e k m && admits C e k ms
 
 -- one pass of train k for e in minute t: a mark that enters leaves its row, and its new marks go to the end
 unfoldable pub passTrain : Case → ℕ → Place → ℕ → State Mark → State Mark

@@ -10,5 +10,6 @@ pub mod View
 pub mod Serving
 pub mod Runs
 pub mod Start
+pub mod Meeting
 pub mod Choices
 pub mod Simulation

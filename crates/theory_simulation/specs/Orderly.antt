@@ -1,7 +1,7 @@
 -- What the single run keeps: each train stands once, no train is twice on an element, no element is over its capacity, each train arrives at most once.
 -- Each is a sum over the marks, and what a train has ahead of it counts as much there as what it is on. Assumes nothing.
 use mathlib.Core.Path.{_≡_, refl, sym, ap, _∙_}
-use mathlib.Core.Bool.{Bool, false, _&&_}
+use mathlib.Core.Bool.{Bool, true, false, not, _&&_}
 use mathlib.Core.List.{List}
 use Prim.Native.Nat.{ℕ, _+_, _≤_, _<_}
 use native.Mathlib.Nat.{le-trans}
@@ -16,7 +16,7 @@ use Rattle.rules.specs.Turns.Place.{outside, gone}
 use Rattle.rules.specs.Single.{trainsOn}
 use Rattle.rules.specs.Demands.{isStanding, isAt}
 use Rattle.theory_lists.specs.Every.{Every, every-all}
-use Rattle.theory_lists.specs.Sums.{sum-every, sum-less, sum-swap, count-any}
+use Rattle.theory_lists.specs.Sums.{sum-same, sum-every, sum-less, sum-plus, sum-swap, count-any}
 use Rattle.theory_lists.specs.Below.{sum-below-in}
 
 -- ---- what is counted
@@ -36,6 +36,20 @@ isBefore C j p m = isStanding j m && ltb (toGo C j p) (toGo C j (m .place))
 -- the place of a mark, and each place that its train has yet to come to
 abbrev pub reach : Case → ℕ → Place → Mark → ℕ
 reach C j p m = tick (isAt j p m) + tick (isBefore C j p m)
+
+-- another train than k is on the place
+abbrev pub isOther : ℕ → Place → Mark → Bool
+isOther k p m = not (eqb (m .train) k) && same (m .place) p
+
+-- the marks on a place are other trains' and the train's own
+pub on-split : (k : ℕ) (p : Place) (ms : List Mark) → count (isOn p) ms ≡ count (isOther k p) ms + count (isAt k p) ms
+on-split k p ms =
+    sum-same (λ m. tick (isOn p m)) (λ m. tick (isOther k p m) + tick (isAt k p m)) (λ m. go (eqb (m .train) k) (same (m .place) p)) ms
+    ∙ sum-plus (λ m. tick (isOther k p m)) (λ m. tick (isAt k p m)) ms
+  where
+    go : (y z : Bool) → tick z ≡ tick (not y && z) + tick (y && z)
+    go true z = omega arith
+    go false z = omega arith
 
 -- the marks ms after which v have arrived are in order
 pub record Orderly (C : Case) (ms : List Mark) (v : List (Arrival Mark)) : Type 0 where

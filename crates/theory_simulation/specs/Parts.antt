@@ -9,7 +9,7 @@ use lib.ListN.{length, getD, set}
 use lib.Dec.{eqb}
 use borrow.Author.Tests.{not-true}
 use Rattle.rules.specs.Lists.{one, each, keep, any, tick, count, has}
-use Rattle.rules.specs.Joint.{Cover, common, without, isEmpty, inside, apart, outsides, piece, reached, staysBelow, carry}
+use Rattle.rules.specs.Joint.{Cover, common, without, isEmpty, inside, apart, outsides, Piece, piece, reached, staysBelow, carry, across}
 use Rattle.theory_lists.specs.Each.{each-each, each-one, each-same}
 use Rattle.theory_lists.specs.Every.{Every, every-append, every-map, every-one, every-each, has-keep}
 use Rattle.theory_lists.specs.Sums.{sum-keep-le}
@@ -124,3 +124,23 @@ carry-parts ws cap [] fs n p h = (h, tt)
 carry-parts ws cap (q ∷ qs) fs n p h =
     cut-parts ws cap qs (reached cap n) (staysBelow cap n (suc (length qs))) (apart (inside p q)) _ _ _ p (inside p q) (carry-parts ws cap qs (fs .1)) h
     (inside-parts ws p q h (fs .0))
+
+-- pieces of parts: of two ways, the second where the test fails, and of one piece more
+pub parts-cond : (ws : Cover) (b : Bool) (s t : List Piece) → Every (λ r. Parts ws (r .cover)) s → (b ≡ false → Every (λ r. Parts ws (r .cover)) t)
+    → Every (λ r. Parts ws (r .cover)) (cond b s t)
+parts-cond ws true s t h k = h
+parts-cond ws false s t h k = k refl
+
+parts-piece : (ws p : Cover) (held : Bool) (ps : List Piece) → Parts ws p → Every (λ r. Parts ws (r .cover)) ps → Every (λ r. Parts ws (r .cover)) (piece p held ∷ ps)
+parts-piece ws p held ps h k = (h, k)
+
+-- the pieces of a cover that first meets the partner's, where what goes on stays a part
+pub across-parts : (ws : Cover) (on : Cover → List Piece) → ((c : Cover) → Parts ws c → Every (λ r. Parts ws (r .cover)) (on c)) → (qs : List Cover) → Every (Parts ws) qs
+    → (p : Cover) → Parts ws p → Every (λ r. Parts ws (r .cover)) (across on qs p)
+unfolding across
+across-parts ws on goes [] fs p h = goes p h
+across-parts ws on goes (q ∷ qs) fs p h =
+    let carried = across-parts ws on goes qs (fs .1) in
+    let inner = inside-parts ws p q h (fs .0) in
+    let each-of = every-each (Parts ws) (λ (r : Piece). Parts ws (r .cover)) in
+    search (parts-cond, parts-piece, each-of, outsides-parts, carried, inner)

@@ -1,26 +1,26 @@
 -- An asker served in the joint run is seen by a choice as served in the single run if the asker covers it, and else as nothing at all.
 -- Every cover that results is again a part of the whole one, so the cutting law applies to it. Takes `Sound` as given, and assumes nothing else.
 use mathlib.Core.Path.{_≡_, refl, sym, ap, ap₂, _∙_, subst}
-use mathlib.Core.Bool.{Bool, true, false, not, _&&_, _||_, cond}
+use mathlib.Core.Bool.{Bool, true, false, not, _&&_, _||_, cond, and-false}
 use mathlib.Core.List.{List, [], _∷_, _++_, map}
 use Prim.Native.Nat.{ℕ}
-use lib.Dec.{leb, ltb, eqb}
+use lib.Dec.{leb, ltb}
 use borrow.Author.Tests.{ltb-true, ltb-false, le-leb, lt-leb}
 use Rattle.rules.specs.Lists.{one, each, keep, count}
 use Rattle.rules.specs.Files.{Case}
 use Rattle.rules.specs.Turns.{Place, same, Mark, capacity, asks, entered, Arrival, arriving, Served, served, Row, quiet}
 use Rattle.rules.specs.Turns.Place.{gone}
-use Rattle.rules.specs.Single.{trainsOn, enters, serveTrain}
-use Rattle.rules.specs.Joint.{Cover, covers, whole, Entry, entry, covered, Piece, piece, carry, meets, pieces, serveEntry}
+use Rattle.rules.specs.Single.{trainsOn, partnerHeld, enters, serveTrain}
+use Rattle.rules.specs.Joint.{Cover, covers, whole, Entry, entry, covered, Piece, meets, pieces, serveEntry}
 use Rattle.rules.specs.Demands.{Choice, view}
 use Rattle.theory_sound.specs.Facts.{Sound}
 use Rattle.theory_lists.specs.Every.{Every, every-append, every-left, every-right, every-map, every-each, every-keep, every-all, every-more}
 use Rattle.theory_simulation.specs.Covers.{Fits, covers-length}
 use Rattle.theory_simulation.specs.Cutting.{verdicts, hits}
-use Rattle.theory_simulation.specs.Parts.{Parts, parts-length, carry-parts}
+use Rattle.theory_simulation.specs.Parts.{Parts, parts-length, carry-parts, parts-cond, across-parts}
 use Rattle.theory_lists.specs.Items.{servedRows, servedList}
-use Rattle.theory_simulation.specs.Orderly.{Orderly}
-use Rattle.theory_simulation.specs.View.{viewRows, viewServed, meets-covers, view-append, view-cons, viewRows-append, viewRows-quiet, held-view, entering-view, arriving-view, meets-hits, pieces-verdict, others-on}
+use Rattle.theory_simulation.specs.Orderly.{isOther, Orderly}
+use Rattle.theory_simulation.specs.View.{viewRows, viewServed, meets-covers, across-covers, view-append, view-cons, viewRows-append, viewRows-quiet, held-view, entering-view, arriving-view, meets-hits, pieces-verdict, others-on}
 
 -- ---- proper covers
 
@@ -54,12 +54,10 @@ module _ (P : Cover → Type 0) where
 module _ (C : Case) (t : ℕ) (e : Place) where
   pub pieces-proper : (rs : List Entry) (r : Entry) → Every (Proper C) rs → Proper C r → Every (λ q. Parts (whole C) (q .cover)) (pieces C e rs r)
   unfolding pieces
-  pieces-proper rs r hs h = go (same e gone)
-    where
-      go : (b : Bool) → Every (λ q. Parts (whole C) (q .cover)) (cond b (piece (r .cover) false ∷ []) (carry (capacity C e) (meets e (r .mark .train) rs) 0 (r .cover)))
-      go true = (h, tt)
-      go false =
-          carry-parts (whole C) (capacity C e) (meets e (r .mark .train) rs) (meets-covers (Parts (whole C)) e (r .mark .train) rs hs) 0 (r .cover) h
+  pieces-proper rs r hs h =
+      let met = meets-covers (Parts (whole C)) e (r .mark .train) rs hs in
+      let far = across-covers (Parts (whole C)) C e (r .mark .train) rs hs in
+      search (parts-cond (whole C), across-parts (whole C), carry-parts (whole C), met, far)
 
   -- what comes of an asker has the covers of its pieces, and no other: what holds of each piece's cover holds of each of these
   pub serve-covers : (P : Cover → Type 0) (rs : List Entry) (r : Entry) → Every (λ q. P (q .cover)) (pieces C e rs r)
@@ -87,11 +85,12 @@ pub proper-fits : (C : Case) (x : List ℕ) → Choice C x → (r : Entry) → P
 proper-fits C x ch r h = parts-length (whole C) (r .cover) h ∙ covers-length (whole C) x ch
 
 -- no way in, in the words of both runs
-not-enters : (g : Bool) (n cap : ℕ) → (not g && leb cap n) ≡ not (g || ltb n cap)
-not-enters true n cap = refl
-not-enters false n cap = go (ltb n cap) refl
+not-enters : (g : Bool) (n cap : ℕ) (held : Bool) → (not g && (held || leb cap n)) ≡ not (g || (ltb n cap && not held))
+not-enters true n cap held = refl
+not-enters false n cap true = sym (ap not (and-false (ltb n cap)))
+not-enters false n cap false = go (ltb n cap) refl
   where
-    go : (b : Bool) → ltb n cap ≡ b → leb cap n ≡ not b
+    go : (b : Bool) → ltb n cap ≡ b → leb cap n ≡ not (b && true)
     go true q = lt-leb cap n (ltb-true n cap q)
     go false q = le-leb cap n (ltb-false n cap q)
 
@@ -116,8 +115,14 @@ module _ (C : Case) (sound : Sound C) (x : List ℕ) (ch : Choice C x) (t : ℕ)
       rs : List Entry
       rs = b ++ (r ∷ c)
 
+      k : ℕ
+      k = r .mark .train
+
+      held : Bool
+      held = partnerHeld C e k (view x rs)
+
       full : Bool
-      full = not (same e gone) && leb (capacity C e) (hits x (meets e (r .mark .train) rs))
+      full = not (same e gone) && (held || leb (capacity C e) (hits x (meets e k rs)))
 
       verdict : verdicts x (pieces C e rs r) ≡ one (covers (r .cover) x) full
       verdict = pieces-verdict x C e rs r
@@ -126,20 +131,22 @@ module _ (C : Case) (sound : Sound C) (x : List ℕ) (ch : Choice C x) (t : ℕ)
 
       go : (z : Bool) → covers (r .cover) x ≡ z → viewServed x (serveEntry C t e rs r) ≡ cond z (serveTrain C t e (view x rs) (r .mark)) (served [] [] [])
       go false q = served-seen rs r false full (verdict ∙ ap (λ (y : Bool). one y full) q)
-      go true q = served-seen rs r true full (verdict ∙ ap (λ (y : Bool). one y full) q) ∙ last (enters C e (view x rs)) shut
+      go true q = served-seen rs r true full (verdict ∙ ap (λ (y : Bool). one y full) q) ∙ last (enters C e k (view x rs)) shut
         where
           here : view x rs ≡ view x b ++ (r .mark ∷ view x c)
           here = view-append x b (r ∷ c) ∙ ap (λ (l : List Mark). view x b ++ l) (view-cons x r c ∙ ap (λ (y : Bool). one y (r .mark) ++ view x c) q)
 
-          trains : hits x (meets e (r .mark .train) rs) ≡ trainsOn C e (view x rs)
+          trains : hits x (meets e k rs) ≡ trainsOn C e (view x rs)
           trains =
-              meets-hits x e (r .mark .train) rs
-              ∙ ap (count (λ a. not (eqb (a .train) (r .mark .train)) && same (a .place) e)) here
+              meets-hits x e k rs
+              ∙ ap (count (isOther k e)) here
               ∙ others-on x C sound t e (r .mark) ask (view x b) (view x c) v (subst (λ (l : List Mark). Orderly C l v) here o)
               ∙ ap (trainsOn C e) (sym here)
 
-          shut : full ≡ not (enters C e (view x rs))
-          shut = ap (λ (n : ℕ). not (same e gone) && leb (capacity C e) n) trains ∙ not-enters (same e gone) (trainsOn C e (view x rs)) (capacity C e)
+          shut : full ≡ not (enters C e k (view x rs))
+          shut =
+              ap (λ (n : ℕ). not (same e gone) && (held || leb (capacity C e) n)) trains
+              ∙ not-enters (same e gone) (trainsOn C e (view x rs)) (capacity C e) held
 
           last : (y : Bool) → full ≡ not y
               → served (one full (r .mark)) (cond full [] (entered C t e (r .mark))) (cond full [] (arriving C t e (r .mark)))

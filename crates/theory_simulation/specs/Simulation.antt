@@ -1,5 +1,6 @@
 -- Demand 3 about the definitions: for a sound case, every choice x and every minute m, what x sees of the joint run is the single run of x, in order.
--- Both runs start alike and go on alike, turn by turn (`run-twin`), and the sums of `Orderly` say the rest. Takes `Sound` as given, and assumes nothing else.
+-- Both runs start alike and go on alike, turn by turn (`run-twin`), and the sums of `Orderly` and `never-both` say the rest. Takes `Sound` as given, and assumes
+-- nothing else.
 use mathlib.Core.Path.{_≡_, refl, sym, ap, _∙_, subst}
 use mathlib.Core.Bool.{Bool, true, false, not, _&&_}
 use mathlib.Core.List.{List, [], map}
@@ -25,6 +26,7 @@ use Rattle.theory_simulation.specs.Parts.{Part, parts-length, parts-at, 
 use Rattle.theory_simulation.specs.View.{view-keep}
 use Rattle.theory_simulation.specs.Serving.{Proper, serve-proper}
 use Rattle.theory_simulation.specs.Start.{whole-at, whole-length, first-proper, first-view, first-orderly}
+use Rattle.theory_simulation.specs.Meeting.{never-both}
 use Rattle.theory_simulation.specs.Runs.{Twin, run-twin}
 
 -- ---- the covers of the joint run
@@ -116,6 +118,8 @@ simulation C sound x ch m = record {
   once = λ k p. le-trans (le-of-eq (covering-length C sound x ch m (isAt k p))) (kept .on-once k p);
   stations = λ i. within (station i) refl refl;
   tracks = λ j. within (track j) refl refl;
+  pairs = λ i j pair.
+      subst (λ (l : List Mark). 0 < trainsOn C (track i) l → trainsOn C (track j) l ≡ 0) (sym (twin .list)) (never-both C sound x m (track i) (track j) pair);
 }
   where
     twin : Twin C x (joint C m) (single C x m)

@@ -154,7 +154,7 @@ module _ (C : Case) (x : List ℕ) where
       go true false c q r = omega (arith, tick-le c)
       go false b c q r = omega arith
 
-  first-within : (p : Place) → same p outside ≡ false → count (isOn p) (firstMarks C x) ≡ 0
+  pub first-within : (p : Place) → same p outside ≡ false → count (isOn p) (firstMarks C x) ≡ 0
   unfolding firstMarks waits
   first-within p h =
       sum-map (λ m. tick (isOn p m)) (λ k. waits C k (getD x k 0)) (below (length (C .trains)))

@@ -11,15 +11,17 @@ use lib.Dec.{ltb, eqb}
 use borrow.Author.Tests.{eqb-true, ltb-true, ltb-false, lt-ltb, eq-eqb}
 use Rattle.rules.specs.Lists.{one, keep, tick, sum, count}
 use Rattle.rules.specs.Files.{Case}
-use Rattle.rules.specs.Turns.{Place, same, Mark, stands, block, lastStation, capacity, ended, asks, dueAgain, leaving, entered, Arrival, arrives, arriving, served}
+use Rattle.rules.specs.Turns.{Place, same, Mark, stands, block, lastStation, capacity, paired, ended, asks, dueAgain, leaving, entered, Arrival, arrives, arriving, served}
 use Rattle.rules.specs.Turns.Place.{outside, gone}
-use Rattle.rules.specs.Single.{trainsOn, enters, serveTrain}
+use Rattle.rules.specs.Single.{trainsOn, partnerHeld, enters, serveTrain}
 use Rattle.rules.specs.Demands.{isAt, isStanding}
 use Rattle.theory_sound.specs.Facts.{Sound}
+use Rattle.theory_lists.specs.Tests.{and-true-first}
 use Rattle.theory_lists.specs.Every.{Every, every-append, every-left, every-right, every-one, every-keep, every-all}
 use Rattle.theory_lists.specs.Sums.{tick-le, sum-append, sum-each, sum-every, sum-less, sum-one-le, sum-keep-le}
 use Rattle.theory_lists.specs.Items.{servedList}
 use Rattle.theory_sound.specs.Ways.{same-true}
+use Rattle.theory_sound.specs.Couples.{partner-off}
 use Rattle.theory_simulation.specs.Places.{asked}
 use Rattle.theory_simulation.specs.Orderly.{isOn, toGo, isBefore, reach, Orderly, trainsOn-count}
 
@@ -78,6 +80,11 @@ module _ (C : Case) (sound : Sound C) (t : ℕ) (e : Place) (m : Mark) (ask : as
       go false true false f g h l = absurd (omega (arith, ltb-false (toGo C j p) (toGo C j (m .place)) h, ltb-true (toGo C j p) (toGo C j e) g))
       go false false c f g h l = omega arith
 
+  -- it comes to one place, and leaves a block at most where it stood
+  entered-on : (p : Place) → count (isOn p) (entered C t e m) ≤ tick (same e p) + tick (isOn p m)
+  unfolding entered
+  entered-on p = omega (arith, leaving-le (λ a. tick (isOn p a)) C t m)
+
   -- the block is where the asker stood, and the standing mark where it had yet to come to
   entered-reach : (j : ℕ) (p : Place) → sum (reach C j p) (entered C t e m) ≤ reach C j p m
   unfolding entered
@@ -97,21 +104,33 @@ module _ (C : Case) (sound : Sound C) (t : ℕ) (e : Place) (m : Mark) (ask : as
         ahead-less j p (eqb (m .train) j) refl,
       )
 
-  -- an asker for e is not on e, nor does it block e
-  pub asker-none : (b c : List Mark) (v : List (Arrival Mark)) → Orderly C (b ++ (m ∷ c)) v → count (isAt (m .train) e) (b ++ (m ∷ c)) ≡ 0
-  asker-none b c v o =
+  -- an asker's train is not on a place that has less of its way ahead, nor does it block it
+  asker-behind : (p : Place) → toGo C (m .train) p < toGo C (m .train) (m .place)
+      → (b c : List Mark) (v : List (Arrival Mark)) → Orderly C (b ++ (m ∷ c)) v → count (isAt (m .train) p) (b ++ (m ∷ c)) ≡ 0
+  asker-behind p less b c v o =
       omega (
         arith,
-        sum-around (λ a. tick (isAt k e a)) b m c,
-        sum-around (reach C k e) b m c,
-        o .reach-once k e,
-        sum-less (λ a. tick (isAt k e a)) (reach C k e) (λ a. omega arith) b,
-        sum-less (λ a. tick (isAt k e a)) (reach C k e) (λ a. omega arith) c,
-        ap tick (ap₂ (λ (y z : Bool). y && z) (stood (eqb k k) ∙ eq-eqb k k refl) (lt-ltb (toGo C k e) (toGo C k (m .place)) (nearer k (eq-eqb k k refl)))),
+        sum-around (λ a. tick (isAt k p a)) b m c,
+        sum-around (reach C k p) b m c,
+        o .reach-once k p,
+        sum-less (λ a. tick (isAt k p a)) (reach C k p) (λ a. omega arith) b,
+        sum-less (λ a. tick (isAt k p a)) (reach C k p) (λ a. omega arith) c,
+        ap tick (ap₂ (λ (y z : Bool). y && z) (stood (eqb k k) ∙ eq-eqb k k refl) (lt-ltb (toGo C k p) (toGo C k (m .place)) less)),
       )
     where
       k : ℕ
       k = m .train
+
+  -- an asker for e is not on e, nor does it block e
+  pub asker-none : (b c : List Mark) (v : List (Arrival Mark)) → Orderly C (b ++ (m ∷ c)) v → count (isAt (m .train) e) (b ++ (m ∷ c)) ≡ 0
+  asker-none = asker-behind e (nearer (m .train) (eq-eqb (m .train) (m .train) refl))
+
+  -- nor is it on the partner of e, which is not on its way
+  pub asker-across : (p : Place) → paired C e p ≡ true
+      → (b c : List Mark) (v : List (Arrival Mark)) → Orderly C (b ++ (m ∷ c)) v → count (isAt (m .train) p) (b ++ (m ∷ c)) ≡ 0
+  asker-across p h =
+      asker-behind p
+      (omega (arith, ap length (partner-off C sound (m .train) (m .place) e p (asked C t e m ask .goes) h), nearer (m .train) (eq-eqb (m .train) (m .train) refl)))
 
   -- ---- an asker that enters
 
@@ -138,31 +157,40 @@ module _ (C : Case) (sound : Sound C) (t : ℕ) (e : Place) (m : Mark) (ask : as
     after-le : (f : Mark → ℕ) → sum f (entered C t e m) ≤ f m → sum f after ≤ sum f (b ++ (m ∷ c))
     after-le f h = omega (arith, sum-around f b m c, sum-entered f b c (entered C t e m))
 
-    after-within : enters C e (b ++ (m ∷ c)) ≡ true → (p : Place) → same p outside ≡ false → same p gone ≡ false → count (isOn p) after ≤ capacity C p
-    unfolding enters entered
+    -- a place that it does not enter holds no more than before
+    pub after-elsewhere : (p : Place) → same e p ≡ false → count (isOn p) after ≤ count (isOn p) (b ++ (m ∷ c))
+    after-elsewhere p q = after-le (λ a. tick (isOn p a)) (omega (arith, entered-on p, ap tick q))
+
+    after-within : enters C e (m .train) (b ++ (m ∷ c)) ≡ true → (p : Place) → same p outside ≡ false → same p gone ≡ false → count (isOn p) after ≤ capacity C p
+    unfolding enters
     after-within h p out way = go (same e p) refl
       where
         go : (a : Bool) → same e p ≡ a → count (isOn p) after ≤ capacity C p
-        go false q = le-trans (after-le (λ a. tick (isOn p a)) (omega (arith, leaving-le (λ a. tick (isOn p a)) C t m, ap tick q))) (o .within p out way)
+        go false q = le-trans (after-elsewhere p q) (o .within p out way)
         go true q =
             omega (
               arith,
               sum-around (λ a. tick (isOn p a)) b m c,
               sum-entered (λ a. tick (isOn p a)) b c (entered C t e m),
-              leaving-le (λ a. tick (isOn p a)) C t m,
+              entered-on p,
               tick-le (same e p),
               room,
             )
           where
-            test : ltb (trainsOn C e (b ++ (m ∷ c))) (capacity C e) ≡ true
-            test =
-                sym (ap (λ (z : Bool). z || ltb (trainsOn C e (b ++ (m ∷ c))) (capacity C e)) (ap (λ (d : Place). same d gone) (same-true e p q) ∙ way)) ∙ h
+            few : Bool
+            few = ltb (trainsOn C e (b ++ (m ∷ c))) (capacity C e)
+
+            free : Bool
+            free = not (partnerHeld C e (m .train) (b ++ (m ∷ c)))
+
+            test : few ≡ true
+            test = and-true-first few free (sym (ap (λ (z : Bool). z || (few && free)) (ap (λ (d : Place). same d gone) (same-true e p q) ∙ way)) ∙ h)
 
             room : count (isOn p) (b ++ (m ∷ c)) < capacity C p
             room = subst (λ (d : Place). count (isOn d) (b ++ (m ∷ c)) < capacity C d) (same-true e p q)
                 (omega (arith, trainsOn-count C (b ++ (m ∷ c)) v o e, ltb-true (trainsOn C e (b ++ (m ∷ c))) (capacity C e) test))
 
-    after-orderly : enters C e (b ++ (m ∷ c)) ≡ true → Orderly C after (v ++ arriving C t e m)
+    after-orderly : enters C e (m .train) (b ++ (m ∷ c)) ≡ true → Orderly C after (v ++ arriving C t e m)
     after-orderly h = record {
       known = every-append known (b ++ [] ++ c) (entered C t e m)
           (every-append known (b ++ []) c (every-append known b [] (every-left known b (m ∷ c) (o .known)) tt) (every-right known b (m ∷ c) (o .known) .1))
@@ -192,9 +220,9 @@ module _ (C : Case) (sound : Sound C) (t : ℕ) (e : Place) (m : Mark) (ask : as
 
     pub serve-orderly : Orderly C (servedList (serveTrain C t e (b ++ (m ∷ c)) m) b c) (v ++ serveTrain C t e (b ++ (m ∷ c)) m .arrived)
     unfolding serveTrain
-    serve-orderly = go (enters C e (b ++ (m ∷ c))) refl
+    serve-orderly = go (enters C e (m .train) (b ++ (m ∷ c))) refl
       where
-        go : (z : Bool) → enters C e (b ++ (m ∷ c)) ≡ z
+        go : (z : Bool) → enters C e (m .train) (b ++ (m ∷ c)) ≡ z
             → Orderly C (servedList (cond z (served [] (entered C t e m) (arriving C t e m)) (served (m ∷ []) [] [])) b c)
             (v ++ cond z (served [] (entered C t e m) (arriving C t e m)) (served (m ∷ []) [] []) .arrived)
         go true h = after-orderly h

@@ -1,26 +1,27 @@
 -- What a choice sees of the joint run, and that it sees an asker served as the single run serves it.
--- The pieces give the choice one verdict, and other trains' entries that cover it are as many as the trains on the element, by the order kept. Takes `Sound` as given, and assumes nothing else.
-use mathlib.Core.Path.{_≡_, refl, sym, ap, _∙_}
-use mathlib.Core.Bool.{Bool, true, false, not, _&&_, cond}
+-- The pieces give the choice one verdict; other trains' entries that cover it are as many as the trains on the element, by the order kept, and one of them is on the
+-- partner where another train is. Takes `Sound` as given, and assumes nothing else.
+use mathlib.Core.Path.{_≡_, refl, sym, ap, ap₂, _∙_}
+use mathlib.Core.Bool.{Bool, true, false, not, _&&_, _||_, cond}
 use mathlib.Core.List.{List, [], _∷_, _++_, map, append-nil}
-use Prim.Native.Nat.{ℕ, _+_}
+use Prim.Native.Nat.{ℕ}
 use native.Mathlib.Omega.{arith}
 use lib.Dec.{leb, eqb}
-use Rattle.rules.specs.Lists.{one, each, keep, tick, sum, count}
+use Rattle.rules.specs.Lists.{one, each, keep, any, tick, sum, count}
 use Rattle.rules.specs.Files.{Case}
-use Rattle.rules.specs.Turns.{Place, same, Mark, capacity, asks, ended, Arrival, arrives, Served, served, Row, row, items, quiet}
+use Rattle.rules.specs.Turns.{Place, same, Mark, capacity, paired, asks, ended, Arrival, arrives, Served, served, Row, row, items, quiet}
 use Rattle.rules.specs.Turns.Place.{gone}
-use Rattle.rules.specs.Single.{trainsOn, singleRules}
-use Rattle.rules.specs.Joint.{Cover, covers, Entry, entry, covered, Piece, piece, carry, meets, pieces, jointRules}
-use Rattle.rules.specs.Demands.{view, arrivalsSeen, isAt}
+use Rattle.rules.specs.Single.{trainsOn, partnerHeld, singleRules}
+use Rattle.rules.specs.Joint.{Cover, covers, Entry, entry, covered, Piece, piece, carry, meets, meetsAcross, across, pieces, jointRules}
+use Rattle.rules.specs.Demands.{view, arrivalsSeen}
 use Rattle.theory_sound.specs.Facts.{Sound}
 use Rattle.theory_lists.specs.Each.{each-append, each-map, each-each, each-same, each-none, each-self, each-one}
-use Rattle.theory_lists.specs.Every.{Every, every-each, every-one, every-all}
-use Rattle.theory_lists.specs.Sums.{sum-each, sum-every, sum-one, sum-plus}
+use Rattle.theory_lists.specs.Every.{Every, every-each, every-one, any-append}
+use Rattle.theory_lists.specs.Sums.{sum-same, sum-each, sum-one}
 use Rattle.theory_simulation.specs.Covers.{Fits}
-use Rattle.theory_simulation.specs.Cutting.{verdicts, hits, carry-law}
+use Rattle.theory_simulation.specs.Cutting.{verdicts, hits, carry-law, hit, across-law}
 use Rattle.theory_simulation.specs.Askers.{Asking}
-use Rattle.theory_simulation.specs.Orderly.{isOn, Orderly, trainsOn-count}
+use Rattle.theory_simulation.specs.Orderly.{isOther, on-split, Orderly, trainsOn-count}
 use Rattle.theory_simulation.specs.Steps.{asker-none}
 
 -- ---- the definitions
@@ -39,6 +40,10 @@ viewServed x s = served (view x (s .rows)) (view x (s .added)) (arrivalsSeen x (
 pub meets-covers : (P : Cover → Type 0) (e : Place) (k : ℕ) (rs : List Entry) → Every (λ r. P (r .cover)) rs → Every P (meets e k rs)
 unfolding meets
 meets-covers P e k rs h = search (every-each, every-one)
+
+pub across-covers : (P : Cover → Type 0) (C : Case) (e : Place) (k : ℕ) (rs : List Entry) → Every (λ r. P (r .cover)) rs → Every P (meetsAcross C e k rs)
+unfolding meetsAcross
+across-covers P C e k rs h = search (every-each, every-one)
 
 -- ---- views of lists and of rows
 
@@ -194,48 +199,67 @@ module _ (x : List ℕ) where
   -- ---- the verdict
 
   -- the entries to meet that cover the choice are the marks of other trains on the element
-  pub meets-hits : (e : Place) (k : ℕ) (rs : List Entry) → hits x (meets e k rs) ≡ count (λ m. not (eqb (m .train) k) && same (m .place) e) (view x rs)
+  pub meets-hits : (e : Place) (k : ℕ) (rs : List Entry) → hits x (meets e k rs) ≡ count (isOther k e) (view x rs)
   unfolding meets view
   meets-hits e k rs =
-      sum-each (λ q. tick (covers q x)) (λ r. one (other (r .mark)) (r .cover)) rs
-      ∙ sum-every (λ r. Unit) (λ r. sum (λ q. tick (covers q x)) (one (other (r .mark)) (r .cover))) (λ r. sum (λ m. tick (other m)) (one (covers (r .cover) x) (r .mark)))
-      (λ r u. sum-one (λ q. tick (covers q x)) (other (r .mark)) (r .cover) ∙ go (other (r .mark)) (covers (r .cover) x) ∙ sym (sum-one (λ m. tick (other m)) (covers (r .cover) x) (r .mark)))
-      rs (every-all (λ r. Unit) (λ r. tt) rs)
-      ∙ sym (sum-each (λ m. tick (other m)) (λ r. one (covers (r .cover) x) (r .mark)) rs)
+      sum-each (λ q. tick (covers q x)) (λ r. one (isOther k e (r .mark)) (r .cover)) rs
+      ∙ sum-same (λ r. sum (λ q. tick (covers q x)) (one (isOther k e (r .mark)) (r .cover))) (λ r. sum (λ m. tick (isOther k e m)) (one (covers (r .cover) x) (r .mark)))
+      (λ r. sum-one (λ q. tick (covers q x)) (isOther k e (r .mark)) (r .cover)
+      ∙ go (isOther k e (r .mark)) (covers (r .cover) x)
+      ∙ sym (sum-one (λ m. tick (isOther k e m)) (covers (r .cover) x) (r .mark))) rs
+      ∙ sym (sum-each (λ m. tick (isOther k e m)) (λ r. one (covers (r .cover) x) (r .mark)) rs)
     where
-      other : Mark → Bool
-      other m = not (eqb (m .train) k) && same (m .place) e
-
       go : (a b : Bool) → cond a (tick b) 0 ≡ cond b (tick a) 0
       go true true = refl
       go true false = refl
       go false true = refl
       go false false = refl
 
+  -- one of the partner's entries to meet covers the choice where another train is on the partner
+  pub across-hit : (C : Case) (e : Place) (k : ℕ) (rs : List Entry) → hit x (meetsAcross C e k rs) ≡ partnerHeld C e k (view x rs)
+  unfolding meetsAcross partnerHeld view
+  across-hit C e k [] = refl
+  across-hit C e k (r ∷ rs) =
+      any-append (λ q. covers q x) (one (other (r .mark)) (r .cover)) (meetsAcross C e k rs)
+      ∙ ap₂ _||_ (go (other (r .mark)) (covers (r .cover) x) refl refl) (across-hit C e k rs)
+      ∙ sym (any-append other (one (covers (r .cover) x) (r .mark)) (view x rs))
+    where
+      other : Mark → Bool
+      other m = not (eqb (m .train) k) && paired C e (m .place)
+
+      go : (a b : Bool) → other (r .mark) ≡ a → covers (r .cover) x ≡ b → any (λ q. covers q x) (one a (r .cover)) ≡ any other (one b (r .mark))
+      go true true p q = ap (λ (z : Bool). z || false) (q ∙ sym p)
+      go true false p q = ap (λ (z : Bool). z || false) q
+      go false true p q = sym (ap (λ (z : Bool). z || false) p)
+      go false false p q = refl
+
   pub pieces-verdict : (C : Case) (e : Place) (rs : List Entry) (r : Entry) → Every (λ a. Fits x (a .cover)) rs → Fits x (r .cover)
-      → verdicts x (pieces C e rs r) ≡ one (covers (r .cover) x) (not (same e gone) && leb (capacity C e) (hits x (meets e (r .mark .train) rs)))
+      → verdicts x (pieces C e rs r)
+      ≡ one (covers (r .cover) x) (not (same e gone) && (partnerHeld C e (r .mark .train) (view x rs) || leb (capacity C e) (hits x (meets e (r .mark .train) rs))))
   unfolding pieces verdicts
   pieces-verdict C e rs r fs f = go (same e gone)
     where
-      go : (b : Bool) → verdicts x (cond b (piece (r .cover) false ∷ []) (carry (capacity C e) (meets e (r .mark .train) rs) 0 (r .cover)))
-          ≡ one (covers (r .cover) x) (not b && leb (capacity C e) (hits x (meets e (r .mark .train) rs)))
+      k : ℕ
+      k = r .mark .train
+
+      met : List Cover
+      met = meets e k rs
+
+      full : Bool
+      full = leb (capacity C e) (hits x met)
+
+      own : (p : Cover) → Fits x p → verdicts x (carry (capacity C e) met 0 p) ≡ one (covers p x) full
+      own p g = carry-law x (capacity C e) met (meets-covers (Fits x) e k rs fs) 0 p g ∙ ap (λ (z : ℕ). one (covers p x) (leb (capacity C e) z)) (omega arith)
+
+      go : (b : Bool) → verdicts x (cond b (piece (r .cover) false ∷ []) (across (carry (capacity C e) met 0) (meetsAcross C e k rs) (r .cover)))
+          ≡ one (covers (r .cover) x) (not b && (partnerHeld C e k (view x rs) || full))
       go true = append-nil (one (covers (r .cover) x) false)
       go false =
-          carry-law x (capacity C e) (meets e (r .mark .train) rs) (meets-covers (Fits x) e (r .mark .train) rs fs) 0 (r .cover) f
-          ∙ ap (λ (z : ℕ). one (covers (r .cover) x) (leb (capacity C e) z)) (omega arith)
+          across-law x (carry (capacity C e) met 0) full own (meetsAcross C e k rs) (across-covers (Fits x) C e k rs fs) (r .cover) f
+          ∙ ap (λ (z : Bool). one (covers (r .cover) x) (z || full)) (across-hit C e k rs)
 
   -- the order that the view has makes the verdict the single run's
   pub others-on : (C : Case) → Sound C → (t : ℕ) (e : Place) (m : Mark) → asks C t e m ≡ true → (b c : List Mark) (v : List (Arrival Mark)) → Orderly C (b ++ (m ∷ c)) v
-      → count (λ a. not (eqb (a .train) (m .train)) && same (a .place) e) (b ++ (m ∷ c)) ≡ trainsOn C e (b ++ (m ∷ c))
+      → count (isOther (m .train) e) (b ++ (m ∷ c)) ≡ trainsOn C e (b ++ (m ∷ c))
   others-on C sound t e m ask b c v o =
-      omega (arith, trainsOn-count C (b ++ (m ∷ c)) v o e, asker-none C sound t e m ask b c v o, split)
-    where
-      split : count (isOn e) (b ++ (m ∷ c)) ≡ count (λ a. not (eqb (a .train) (m .train)) && same (a .place) e) (b ++ (m ∷ c)) + count (isAt (m .train) e) (b ++ (m ∷ c))
-      split =
-          sum-every (λ a. Unit) (λ a. tick (isOn e a)) (λ a. tick (not (eqb (a .train) (m .train)) && same (a .place) e) + tick (isAt (m .train) e a))
-          (λ a u. go (eqb (a .train) (m .train)) (same (a .place) e)) (b ++ (m ∷ c)) (every-all (λ a. Unit) (λ a. tt) (b ++ (m ∷ c)))
-          ∙ sum-plus (λ a. tick (not (eqb (a .train) (m .train)) && same (a .place) e)) (λ a. tick (isAt (m .train) e a)) (b ++ (m ∷ c))
-        where
-          go : (y z : Bool) → tick z ≡ tick (not y && z) + tick (y && z)
-          go true z = omega arith
-          go false z = omega arith
+      omega (arith, trainsOn-count C (b ++ (m ∷ c)) v o e, asker-none C sound t e m ask b c v o, on-split (m .train) e (b ++ (m ∷ c)))

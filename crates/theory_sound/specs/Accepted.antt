@@ -142,6 +142,8 @@ case-sound c k p q w e = record {
   few-tracks = p .few-tracks;
   stations-sound = p .stations;
   tracks-sound = p .tracks;
+  couples-sound = p .couples;
+  coupled-once = p .once;
   trains-sound = p .trains;
   tables-sound = tables-sound c k p q e;
 }
@@ -159,3 +161,9 @@ accepted-sound cs bk C h =
     let k = r .of-book in
     rw (r .assembled)
     (case-sound c k (read-kept case cs c (r .case-read)) (read-kept book bk k (r .book-read)) (case-complete cs c (r .case-read)) (r .found))
+
+pub accepted-couples : (cs bk : List ℕ) (C : Case) → files cs bk ≡ answer C → length (C .couples) ≤ 20
+unfolding caseOf
+accepted-couples cs bk C h =
+    let r = accepted-reads cs bk C h in
+    rw (r .assembled) (read-kept case cs (r .of-case) (r .case-read) .few-couples)

@@ -1,4 +1,4 @@
--- A body that breaks no rule of its tag is a sound part of the case: head, station, track, train or table.
+-- A body that breaks no rule of its kind is a sound part of the case: head, station, track, train or table.
 -- Each fact is read off a test that failed; how many stops or pairs there are follows from the field's length. Assumes nothing.
 use mathlib.Core.Path.{_≡_, _∙_}
 use mathlib.Core.Bool.{Bool, true, false, not, _||_}

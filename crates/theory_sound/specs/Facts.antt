@@ -5,7 +5,8 @@ use mathlib.Core.List.{List, [], _∷_, map}
 use Prim.Native.Nat.{ℕ, _≤_, _<_}
 use lib.ListN.{length, getD}
 use Rattle.rules.specs.Lists.{any, sum}
-use Rattle.rules.specs.Files.{Head, Track, Stop, Train, Pair, Case, leads, repeats, lastOf, rising}
+use Rattle.rules.specs.Files.{Head, Track, Stop, Train, Pair, Couple, Case, leads, repeats, lastOf, rising}
+unfoldable pub use Rattle.rules.specs.Files.{coupled}
 use Rattle.rules.specs.Turns.{Place, headIs, ahead}
 use Rattle.theory_lists.specs.Every.{Every}
 
@@ -40,6 +41,14 @@ pub record SoundTrack (n : ℕ) (r : Track) : Type 0 where
   pub known-from : r .from < n
   pub known-to : r .to < n
   pub two-ends : r .from ≡ r .to → ⊥
+
+-- two of these tracks: there and back between the same ends, of one capacity
+pub record SoundCouple (ts : List Track) (c : Couple) : Type 0 where
+  pub known-first : c .first < length ts
+  pub known-second : c .second < length ts
+  pub there : getD (map (λ r. r .from) ts) (c .first) 0 ≡ getD (map (λ r. r .to) ts) (c .second) 0
+  pub back : getD (map (λ r. r .to) ts) (c .first) 0 ≡ getD (map (λ r. r .from) ts) (c .second) 0
+  pub equal : getD (map (λ r. r .capacity) ts) (c .first) 0 ≡ getD (map (λ r. r .capacity) ts) (c .second) 0
 
 -- among n stations, on these tracks, up to the last minute T
 pub record SoundTrain (n : ℕ) (ts : List Track) (T : ℕ) (t : Train) : Type 0 where
@@ -79,5 +88,8 @@ pub record Sound (C : Case) : Type 0 where
   pub few-tracks : length (C .tracks) ≤ 40
   pub stations-sound : Every SoundCapacity (C .stations)
   pub tracks-sound : Every (SoundTrack (length (C .stations))) (C .tracks)
+  -- each couple's tracks lead there and back, and no track stands in two couples
+  pub couples-sound : Every (SoundCouple (C .tracks)) (C .couples)
+  pub coupled-once : repeats (coupled (C .couples)) ≡ false
   pub trains-sound : Every (SoundTrain (length (C .stations)) (C .tracks) (C .head .lastMinute)) (C .trains)
   pub tables-sound : Every SoundPairs (C .tables)

@@ -10,14 +10,15 @@ use lib.ListN.{length, length-append}
 use lib.Dec.{leb, eqb}
 use borrow.Author.Tests.{eqb-true, eq-eqb}
 use Rattle.rules.specs.Lists.{one, has}
-use Rattle.rules.specs.Files.{Track, Train, Contents, File, Kind, byte, headOf, trackOf, trainOf, tableOf, rank, is, kind, inPlace, lengths, most, howMany, leads, bodyRules, size, body, more, empty}
+use Rattle.rules.specs.Files.{Track, Train, Contents, File, Kind, byte, headOf, trackOf, trainOf, tableOf, coupleOf, rank, is, kind, inPlace, lengths, most, howMany, leads, repeats, coupled, bodyRules, size, body, more, empty}
 use Rattle.rules.specs.Files.File.{case, book}
-use Rattle.rules.specs.Files.Kind.{head, station, track, train, table}
+use Rattle.rules.specs.Files.Kind.{head, station, track, train, table, couple}
 use Rattle.theory_lists.specs.Every.{Every, every-append-one, every-more, any-append-first}
-use Rattle.theory_sound.specs.Facts.{SoundHead, SoundCapacity, SoundTrack, SoundTrain, SoundPairs}
+use Rattle.theory_sound.specs.Facts.{SoundHead, SoundCapacity, SoundTrack, SoundTrain, SoundPairs, SoundCouple}
 use Rattle.theory_sound.specs.Steps.{few-more, steps-map}
 use Rattle.theory_sound.specs.Kinds.{is-kind, some-rank}
 use Rattle.theory_sound.specs.Verdicts.{Unbroken, Field, withField}
+use Rattle.theory_sound.specs.Coupling.{NewCouple, couple-sound, couple-grows, coupled-once}
 use Rattle.theory_sound.specs.Bodies.{head-sound, station-sound, track-sound, train-sound, table-sound, body-length, train-stops, table-pairs}
 
 -- what an accepted file holds, after each of its fields
@@ -26,23 +27,30 @@ pub record Kept (c : Contents) : Type 0 where
   pub few-tracks : length (c .tracks) ≤ 40
   pub few-trains : length (c .trains) ≤ 7
   pub few-tables : length (c .tables) ≤ 8
+  pub few-couples : length (c .couples) ≤ 20
   pub stations : Every SoundCapacity (c .stations)
   pub tracks : Every (SoundTrack (length (c .stations))) (c .tracks)
   pub trains : Every (SoundTrain (length (c .stations)) (c .tracks) (c .head .lastMinute)) (c .trains)
   pub tables : Every (λ d. SoundPairs (d .pairs)) (c .tables)
+  pub couples : Every (SoundCouple (c .tracks)) (c .couples)
+  pub once : repeats (coupled (c .couples)) ≡ false
   -- no train stands before the first field
   pub headed : c .rank ≡ 0 → c .trains ≡ []
 
 pub kept-empty : Kept empty
+unfolding coupled
 kept-empty = record {
   few-stations = omega arith;
   few-tracks = omega arith;
   few-trains = omega arith;
   few-tables = omega arith;
+  few-couples = omega arith;
   stations = tt;
   tracks = tt;
   trains = tt;
   tables = tt;
+  couples = tt;
+  once = refl;
   headed = λ h. refl;
 }
 
@@ -134,6 +142,10 @@ module _ (f : File) (c : Contents) (at : ℕ) (l : List ℕ) (d : Field f c at l
       let n = table-pairs (body l) (length-as table e) in
       table-sound c (tableOf (body l)) (n .0) (n .1) (unbroken-as table e)
 
+  new-couple : is couple (kind l) ≡ true → NewCouple c (coupleOf (body l))
+  unfolding bodyRules
+  new-couple e = couple-sound c (coupleOf (body l)) (unbroken-as couple e)
+
   -- the trains so far, beside the head that now stands
   old-trains : Kept c → Every (SoundTrain (length (c .stations)) (c .tracks) (now .head .lastMinute)) (c .trains)
   old-trains k = go (is head (kind l)) refl
@@ -154,6 +166,7 @@ module _ (f : File) (c : Contents) (at : ℕ) (l : List ℕ) (d : Field f c at l
     few-tracks = few-more 40 (c .tracks) (is track (kind l)) (trackOf (body l)) (k .few-tracks) (not-full-as track);
     few-trains = few-more 7 (c .trains) (is train (kind l)) (trainOf at (body l)) (k .few-trains) (not-full-as train);
     few-tables = few-more 8 (c .tables) (is table (kind l)) (tableOf (body l)) (k .few-tables) (not-full-as table);
+    few-couples = few-more 20 (c .couples) (is couple (kind l)) (coupleOf (body l)) (k .few-couples) (not-full-as couple);
     stations = every-append-one SoundCapacity (c .stations) (is station (kind l)) (byte (body l) 0) (k .stations) new-station;
     tracks = every-more _ _
         (track-grows (length (c .stations)) (length (now .stations)) more-stations)
@@ -164,6 +177,11 @@ module _ (f : File) (c : Contents) (at : ℕ) (l : List ℕ) (d : Field f c at l
         (now .trains)
         (every-append-one (SoundTrain (length (c .stations)) (c .tracks) (now .head .lastMinute)) (c .trains) (is train (kind l)) (trainOf at (body l)) (old-trains k) new-train);
     tables = every-append-one (λ d. SoundPairs (d .pairs)) (c .tables) (is table (kind l)) (tableOf (body l)) (k .tables) new-table;
+    couples = every-more _ _
+        (couple-grows (c .tracks) (one (is track (kind l)) (trackOf (body l))))
+        (now .couples)
+        (every-append-one (SoundCouple (c .tracks)) (c .couples) (is couple (kind l)) (coupleOf (body l)) (k .couples) (λ e. new-couple e .sound));
+    once = coupled-once (length (c .stations)) c (is couple (kind l)) (coupleOf (body l)) (k .tracks) (k .once) new-couple;
     headed = λ z. absurd (omega (arith, some-rank (kind l) (d .a-tag), z));
   }
 

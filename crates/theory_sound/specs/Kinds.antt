@@ -6,7 +6,7 @@ use native.Mathlib.Omega.{arith}
 use lib.Dec.{eqb}
 use borrow.Author.Tests.{eqb-true, ne-eqb}
 use Rattle.rules.specs.Files.{Kind, kindOf, rank, is, known}
-use Rattle.rules.specs.Files.Kind.{head, station, track, train, table, noField}
+use Rattle.rules.specs.Files.Kind.{head, station, track, train, table, couple, noField}
 
 kind-of-rank : (k : Kind) → kindOf (rank k) ≡ k
 unfolding kindOf
@@ -16,6 +16,7 @@ kind-of-rank station = refl
 kind-of-rank track = refl
 kind-of-rank train = refl
 kind-of-rank table = refl
+kind-of-rank couple = refl
 
 pub is-kind : (j k : Kind) → is j k ≡ true → k ≡ j
 is-kind j k h = sym (kind-of-rank k) ∙ ap kindOf (eqb-true (rank k) (rank j) h) ∙ kind-of-rank j
@@ -28,17 +29,19 @@ some-rank station h = omega arith
 some-rank track h = omega arith
 some-rank train h = omega arith
 some-rank table h = omega arith
+some-rank couple h = omega arith
 
-few-ranks : (k : Kind) → rank k ≤ 5
+few-ranks : (k : Kind) → rank k ≤ 6
 few-ranks noField = omega arith
 few-ranks head = omega arith
 few-ranks station = omega arith
 few-ranks track = omega arith
 few-ranks train = omega arith
 few-ranks table = omega arith
+few-ranks couple = omega arith
 
 -- a tag that there is, is the rank of its kind
-pub rank-tag : (tag : ℕ) → tag ≤ 5 → rank (kindOf tag) ≡ tag
+pub rank-tag : (tag : ℕ) → tag ≤ 6 → rank (kindOf tag) ≡ tag
 unfolding kindOf
 rank-tag zero h = refl
 rank-tag (suc zero) h = refl
@@ -46,7 +49,8 @@ rank-tag (suc (suc zero)) h = refl
 rank-tag (suc (suc (suc zero))) h = refl
 rank-tag (suc (suc (suc (suc zero)))) h = refl
 rank-tag (suc (suc (suc (suc (suc zero))))) h = refl
-rank-tag (suc (suc (suc (suc (suc (suc n)))))) h = absurd (omega arith)
+rank-tag (suc (suc (suc (suc (suc (suc zero)))))) h = refl
+rank-tag (suc (suc (suc (suc (suc (suc (suc n))))))) h = absurd (omega arith)
 
 -- a field is of a kind by its tag
 pub is-tag : (j : Kind) (tag : ℕ) → 1 ≤ rank j → is j (kindOf tag) ≡ eqb tag (rank j)
@@ -57,6 +61,7 @@ is-tag j (suc (suc zero)) h = refl
 is-tag j (suc (suc (suc zero))) h = refl
 is-tag j (suc (suc (suc (suc zero)))) h = refl
 is-tag j (suc (suc (suc (suc (suc zero))))) h = refl
-is-tag j (suc (suc (suc (suc (suc (suc n)))))) h =
+is-tag j (suc (suc (suc (suc (suc (suc zero)))))) h = refl
+is-tag j (suc (suc (suc (suc (suc (suc (suc n))))))) h =
     let few = few-ranks j in
-    rw (ne-eqb 0 (rank j) (λ e. omega arith), ne-eqb (suc (suc (suc (suc (suc (suc n)))))) (rank j) (λ e. omega arith))
+    rw (ne-eqb 0 (rank j) (λ e. omega arith), ne-eqb (suc (suc (suc (suc (suc (suc (suc n))))))) (rank j) (λ e. omega arith))

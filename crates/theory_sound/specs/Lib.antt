@@ -1,10 +1,12 @@
 pub mod Facts
 pub mod Steps
 pub mod Ways
+pub mod Couples
 pub mod Kinds
 pub mod Verdicts
 pub mod Reading
 pub mod Bodies
+pub mod Coupling
 pub mod Kept
 pub mod Accepted
 pub mod Bounds

@@ -9,7 +9,7 @@ use lib.ListN.{length, drop, length-drop}
 use borrow.Author.Tests.{ltb-false, leb-false, not-false}
 use Rattle.rules.specs.Lists.{has}
 use Rattle.rules.specs.Refusals.{Fault, number, Rule, firstOf, verdict, Refusal, Spot, Result, then, answerUnless}
-use Rattle.rules.specs.Refusals.Fault.{overrun, unknownTag, misplaced, wrongLength, wrongCount, outOfRange, wrongEnds, wrongPath, wrongTimes, wrongTable, noTable, noRoom, tooShort, wrongChoice, noTrain, stopTooLate}
+use Rattle.rules.specs.Refusals.Fault.{overrun, unknownTag, misplaced, wrongLength, wrongCount, outOfRange, wrongEnds, wrongPath, wrongTimes, wrongTable, noTable, noRoom, tooShort, wrongChoice, noTrain, stopTooLate, wrongCouple}
 use Rattle.rules.specs.Refusals.Result.{refused, answer}
 use Rattle.rules.specs.Files.{File, Contents, kind, known, inPlace, lengths, most, howMany, size, body, bodyRules, fieldRules, more}
 use Rattle.theory_lists.specs.Every.{Every}
@@ -82,6 +82,7 @@ number-given tooShort = (omega arith, λ e. omega arith)
 number-given wrongChoice = (omega arith, λ e. omega arith)
 number-given noTrain = (omega arith, λ e. omega arith)
 number-given stopTooLate = (omega arith, λ e. omega arith)
+number-given wrongCouple = (omega arith, λ e. omega arith)
 
 -- no rule is broken
 abbrev pub Unbroken : List Rule → Type 0
@@ -103,11 +104,12 @@ verdict-given (r ∷ rs) h = go (r .broken) h (verdict-given rs)
     go true h i = number-given (r .fault)
     go false h i = i h
 
-pub verdict-few : (n : ℕ) (rs : List Rule) → Every (λ r. number (r .fault) ≤ n) rs → verdict rs ≤ n
-verdict-few n [] e = omega arith
-verdict-few n (r ∷ rs) e = go (r .broken) (verdict-few n rs (e .1))
+-- what holds of 0 and of the number of each rule holds of the verdict
+pub verdict-every : (P : ℕ → Type 0) (rs : List Rule) → P 0 → Every (λ r. P (number (r .fault))) rs → P (verdict rs)
+verdict-every P [] z e = z
+verdict-every P (r ∷ rs) z e = go (r .broken) (verdict-every P rs z (e .1))
   where
-    go : (b : Bool) → verdict rs ≤ n → firstOf b (number (r .fault)) (verdict rs) ≤ n
+    go : (b : Bool) → P (verdict rs) → P (firstOf b (number (r .fault)) (verdict rs))
     go true h = e .0
     go false h = h
 

@@ -15,7 +15,7 @@ use Rattle.rules.specs.Turns.{Place, same, Leg, leg, trackFrom, legs, trainAt, 
 use Rattle.rules.specs.Turns.Place.{outside, station, track, gone}
 use Rattle.theory_lists.specs.Every.{Every, every-all, every-source, every-more, fails-every}
 use Rattle.theory_sound.specs.Facts.{Steps, Joined}
-use Rattle.theory_lists.specs.Tests.{or-false-first, or-false-second, and-true-first}
+use Rattle.theory_lists.specs.Tests.{or-false-first, or-false-second, and-true-first, and-true-second}
 
 -- ---- places
 
@@ -89,19 +89,25 @@ after-shorter p e (l ∷ ls) a h = go (same (l .place) p) h (after-shorter p e l
 
 -- ---- the track of a step
 
--- the track that is found leads from the first station
+-- the track that is found has the end that every track has which leads from a to b
+trackFrom-end : (end : Track → ℕ) (a b n : ℕ) → ((r : Track) → leads a b r ≡ true → end r ≡ n) → (ts : List Track) → any (leads a b) ts ≡ true
+    → getD (map end ts) (trackFrom a b ts) 0 ≡ n
+trackFrom-end end a b n f [] h = absurd (false≢true h)
+trackFrom-end end a b n f (r ∷ ts) h = go (leads a b r) refl h (trackFrom-end end a b n f ts)
+  where
+    go : (t : Bool) → leads a b r ≡ t → (t || any (leads a b) ts) ≡ true → (any (leads a b) ts ≡ true → getD (map end ts) (trackFrom a b ts) 0 ≡ n)
+        → getD (end r ∷ map end ts) (cond t 0 (suc (trackFrom a b ts))) 0 ≡ n
+    go true q h i = f r q
+    go false q h i = i h
+
+-- so it leads from the first station to the second
 pub trackFrom-from : (a b : ℕ) (ts : List Track) → any (leads a b) ts ≡ true → getD (map (λ r. r .from) ts) (trackFrom a b ts) 0 ≡ a
 unfolding leads
-trackFrom-from a b [] h = absurd (false≢true h)
-trackFrom-from a b (r ∷ ts) h = go (leads a b r) refl h (trackFrom-from a b ts)
-  where
-    froms : List ℕ
-    froms = map (λ r. r .from) ts
+trackFrom-from a b = trackFrom-end (λ r. r .from) a b a (λ r q. eqb-true (r .from) a (and-true-first (eqb (r .from) a) (eqb (r .to) b) q))
 
-    go : (t : Bool) → leads a b r ≡ t → (t || any (leads a b) ts) ≡ true → (any (leads a b) ts ≡ true → getD froms (trackFrom a b ts) 0 ≡ a)
-        → getD (r .from ∷ froms) (cond t 0 (suc (trackFrom a b ts))) 0 ≡ a
-    go true q h i = eqb-true (r .from) a (and-true-first (eqb (r .from) a) (eqb (r .to) b) q)
-    go false q h i = i h
+pub trackFrom-to : (a b : ℕ) (ts : List Track) → any (leads a b) ts ≡ true → getD (map (λ r. r .to) ts) (trackFrom a b ts) 0 ≡ b
+unfolding leads
+trackFrom-to a b = trackFrom-end (λ r. r .to) a b b (λ r q. eqb-true (r .to) b (and-true-second (eqb (r .from) a) (eqb (r .to) b) q))
 
 -- ---- the places of a way
 

@@ -1,5 +1,5 @@
--- What stands past the first 864 bytes of a file never changes what is read, so neither does what stands past the 4,096 that are handed on.
--- A field that is accepted begins at 819 at the most, and what decides on it are its length, if that is impossible, or its 45 bytes. Assumes nothing.
+-- What stands past the first 964 bytes of a file never changes what is read, so neither does what stands past the 4,096 that are handed on.
+-- A field that is accepted begins at 919 at the most, and what decides on it are its length, if that is impossible, or its 45 bytes. Assumes nothing.
 use mathlib.Core.Path.{_≡_, refl, sym, ap, _∙_}
 use mathlib.Core.Bool.{Bool, true, false, not}
 use mathlib.Core.List.{List, [], _∷_}
@@ -15,7 +15,7 @@ use Rattle.rules.specs.Refusals.{Rule, _when_, verdict, Result, then, answerUnl
 use Rattle.rules.specs.Refusals.Fault.{overrun, unknownTag, misplaced, wrongLength, wrongCount}
 use Rattle.rules.specs.Files.{File, Kind, kindOf, spot, Contents, byte, kind, known, inPlace, lengths, most, howMany, bodyRules, size, body, fieldRules, more, readField, readFields, empty, read, files}
 use Rattle.rules.specs.Files.File.{case, book}
-use Rattle.rules.specs.Files.Kind.{head, station, track, train, table, noField}
+use Rattle.rules.specs.Files.Kind.{head, station, track, train, table, couple, noField}
 use Rattle.theory_lists.specs.Every.{Every, has-every}
 use Rattle.theory_sound.specs.Verdicts.{Field, field-accepted, past, rest, withField}
 use Rattle.theory_sound.specs.Bounds.{Within, within-empty, within-bytes, within-more, turns-suffice}
@@ -58,6 +58,7 @@ lengths-small k n h = has-every Small (lengths k) n (small k) h
     small track = omega arith
     small train = omega arith
     small table = omega arith
+    small couple = omega arith
 
 module _ (f : File) (c : Contents) (at w : ℕ) (l : List ℕ) (h : 45 ≤ w) where
   byte-take : (i : ℕ) → i < w → byte (take w l) i ≡ byte l i
@@ -116,8 +117,8 @@ module _ (f : File) (c : Contents) (at w : ℕ) (l : List ℕ) (h : 45 ≤ w) wh
 
 -- ---- the reading of the beginning
 
--- from offset `at` on, of a file of which at least 864 bytes are handed on
-readFields-window : (n at w : ℕ) (f : File) (l : List ℕ) (c : Contents) → Within at c → 864 ≤ at + w
+-- from offset `at` on, of a file of which at least 964 bytes are handed on
+readFields-window : (n at w : ℕ) (f : File) (l : List ℕ) (c : Contents) → Within at c → 964 ≤ at + w
     → readFields n f at (take w l) c ≡ readFields n f at l c
 unfolding readFields readField
 readFields-window zero at w f l c p h = refl
@@ -144,7 +145,7 @@ readFields-window (suc n) at (suc w) f (b ∷ l) c p h =
     sized = size-take f c at (suc w) (b ∷ l) wide
 
     go : (v : ℕ) → (v ≡ 0 → Field f c at (b ∷ l))
-        → (Within (past at (b ∷ l)) (now (b ∷ l)) → 864 ≤ past at (b ∷ l) + left
+        → (Within (past at (b ∷ l)) (now (b ∷ l)) → 964 ≤ past at (b ∷ l) + left
         → readFields n f (past at (b ∷ l)) (take left (rest (b ∷ l))) (now (b ∷ l)) ≡ on (b ∷ l) (now (b ∷ l)))
         → then (answerUnless v (spot f at) (now (b ∷ take w l))) (on (b ∷ take w l)) ≡ then (answerUnless v (spot f at) (now (b ∷ l))) (on (b ∷ l))
     go (suc v) e r = refl
@@ -157,7 +158,7 @@ readFields-window (suc n) at (suc w) f (b ∷ l) c p h =
         small : size (b ∷ l) ≤ 42
         small = lengths-small (kindOf b) (size (b ∷ l)) (e refl .a-length)
 
-pub read-window : (w : ℕ) (f : File) (l : List ℕ) → 864 ≤ w → read f (take w l) ≡ read f l
+pub read-window : (w : ℕ) (f : File) (l : List ℕ) → 964 ≤ w → read f (take w l) ≡ read f l
 unfolding read
 read-window w f l h =
     sym (turns-suffice (suc (length l)) f (take w l) (omega (arith, length-take w l)))

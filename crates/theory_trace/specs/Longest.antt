@@ -10,10 +10,9 @@ use lib.ListN.{length, length-append}
 use borrow.Author.Tests.{ltb-true, lt-ltb}
 use Rattle.rules.specs.Lists.{one, each, keep, any, below, fold}
 use Rattle.rules.specs.Files.{Case}
-use Rattle.rules.specs.Turns.{Place, same, Mark, State, state, Row, items, Visit, Turn, Rules, capacity, ended, asks, elements, entered, next, serveNext, turns, visit, minute, minutes, runFrom}
-use Rattle.rules.specs.Turns.Place.{gone}
+use Rattle.rules.specs.Turns.{Place, Mark, State, state, Row, items, Visit, Turn, Rules, ended, asks, elements, entered, next, serveNext, turns, visit, minute, minutes, runFrom}
 use Rattle.rules.specs.Turns.Turn.{nobody, somebody}
-use Rattle.rules.specs.Joint.{Cover, Piece, piece, carry, meets, pieces, Entry, serveEntry, jointRules}
+use Rattle.rules.specs.Joint.{Cover, Piece, carry, across, pieces, Entry, serveEntry, jointRules}
 use Rattle.rules.specs.Demands.{rowsAfter, turnList, turnLists, visitLists, visitsLists, minuteLists, minutesLists, runLists, passes}
 use Rattle.theory_lists.specs.Tests.{or-true-second, or-brings, or-middle}
 use Rattle.theory_lists.specs.Every.{any-append}
@@ -156,8 +155,8 @@ some-map f (a ∷ l) h = omega arith
 some-append : {A : Type 0} (s t : List A) → 1 ≤ length s → 1 ≤ length (s ++ t)
 some-append s t h = omega (arith, length-append s t)
 
-some-piece : (p : Piece) → 1 ≤ length (p ∷ [])
-some-piece p = omega arith
+some-piece : (p : Piece) (ps : List Piece) → 1 ≤ length (p ∷ ps)
+some-piece p ps = omega arith
 
 -- of two ways each comes to at least one piece
 cond-some : (b : Bool) (s t : List Piece) → 1 ≤ length s → 1 ≤ length t → 1 ≤ length (cond b s t)
@@ -172,13 +171,17 @@ carry-some cap (q ∷ qs) n p =
     let carried = carry-some cap qs in
     search (cond-some, some-piece, some-append, carried)
 
+-- and so does one that first meets the partner's entries, if what goes on does
+across-some : (on : Cover → List Piece) → ((c : Cover) → 1 ≤ length (on c)) → (qs : List Cover) (p : Cover) → 1 ≤ length (across on qs p)
+unfolding across
+across-some on h [] p = h p
+across-some on h (q ∷ qs) p =
+    let carried = across-some on h qs in
+    search (cond-some, some-piece, carried)
+
 pieces-some : (C : Case) (e : Place) (rs : List Entry) (r : Entry) → 1 ≤ length (pieces C e rs r)
 unfolding pieces
-pieces-some C e rs r = go (same e gone)
-  where
-    go : (b : Bool) → 1 ≤ length (cond b (piece (r .cover) false ∷ []) (carry (capacity C e) (meets e (r .mark .train) rs) 0 (r .cover)))
-    go true = omega arith
-    go false = carry-some (capacity C e) (meets e (r .mark .train) rs) 0 (r .cover)
+pieces-some C e rs r = search (cond-some, some-piece, across-some, carry-some)
 
 -- held pieces leave an entry, and the others add at least one
 pieces-grow : (held : Piece → Entry) (new : Piece → List Entry) → ((q : Piece) → 1 ≤ length (new q)) → (ps : List Piece) → 1 ≤ length ps

@@ -107,7 +107,7 @@ module _ {A : Type 0} (C : Case) (R : Rules A) (prompt : Prompt R) where
 
 prompt-single : (C : Case) → Prompt (singleRules C)
 unfolding singleRules serveTrain arriving
-prompt-single C t e ms m = go (enters C e ms)
+prompt-single C t e ms m = go (enters C e (m .train) ms)
   where
     go : (b : Bool) → Every (λ v. v .minute ≡ t) (cond b (served [] (entered C t e m) (arriving C t e m)) (served (m ∷ []) [] []) .arrived)
     go true = every-one (λ v. v .minute ≡ t) (same e (lastStation C (m .train))) _ (λ q. refl)
