@@ -1,18 +1,18 @@
 -- The verdict on a body that the code computes by offset is the verdict of 01's rules on what the body holds: each rule is carried
 -- from the list of stops or pairs to its indices, and the chain of tests is then the same. Assumes nothing.
 use mathlib.Core.Path.{_≡_, refl, ap, sym, _∙_}
-use mathlib.Core.Bool.{Bool, true, false, cond, not, _||_, or-false, true≢false}
+use mathlib.Core.Bool.{Bool, true, false, cond, not, _&&_, _||_, or-false, true≢false}
 use mathlib.Core.List.{List, map, map-map}
 use Prim.Native.Nat.{ℕ, zero, suc, _+_, _-_, _*_, _%_, _<_}
 use native.Mathlib.Omega.{arith}
 use lib.Dec.{leb, ltb, eqb}
 use lib.ListN.{length, drop}
-use borrow.Author.Tests.{lt-ltb, le-ltb, ne-eqb, ltb-true, ltb-false, eqb-true, eqb-false}
+use borrow.Author.Tests.{lt-ltb, le-ltb, ne-eqb, leb-false, ltb-true, ltb-false, eqb-true, eqb-false}
 use Rattle.rules.specs.Lists.{any, span, below, has}
 use Rattle.rules.specs.Refusals.{verdict, firstOf}
-use Rattle.rules.specs.Files.{Contents, Stop, Pair, byte, word, headOf, trackOf, stopOf, trainOf, pairOf, tableOf, kindOf, known, lengths, headRules, stationRules, unknown, leads, trackRules, anyStep, repeats, pathBroken, timesBroken, trainRules, rising, tableRules}
+use Rattle.rules.specs.Files.{Contents, Track, Stop, Pair, byte, word, headOf, trackOf, stopOf, trainOf, pairOf, tableOf, coupleOf, kindOf, known, lengths, headRules, stationRules, unknown, leads, trackRules, anyStep, repeats, pathBroken, timesBroken, trainRules, rising, tableRules, trackAt, coupled, unlike, coupleRules}
 use Rattle.file_fields.specs.At.{byte-drop, word-drop}
-use Rattle.file_bodies.specs.Bodies.{anyBelow, sumBelow, headVerdict, stationVerdict, joined, trackVerdict, stops, stop, arrival, departure, repeated, badStop, badTime, timesVerdict, trainVerdict, pairs, delay, weight, badPair, pairsVerdict, tableVerdict, badLength}
+use Rattle.file_bodies.specs.Bodies.{anyBelow, sumBelow, headVerdict, stationVerdict, ends, joined, trackVerdict, stops, stop, arrival, departure, repeated, badStop, badTime, timesVerdict, trainVerdict, pairs, delay, weight, badPair, pairsVerdict, tableVerdict, alike, taken, firstCouple, coupleVerdict, badLength}
 use Rattle.file_bodies.specs.Search.{any-here, any-same, any-or, sum-same, any-below, sum-below, afterFirst, step-below, repeats-below, rising-below, lastOf-below}
 
 -- ---- tests
@@ -224,6 +224,72 @@ module _ (c : Contents) (tables last : ℕ) (types : (x : ℕ) → any (λ e. le
       go false false false true = refl
       go false false false false = refl
 
+-- ---- couple
+
+module _ (c : Contents) (earlier : List ℕ) (base tracks n : ℕ) (many : tracks ≡ length (c .tracks))
+    (stand : (j : ℕ) → j < tracks → trackOf (drop (base + 6 * j + 3) earlier) ≡ trackAt c j)
+    (known : (t : ℕ) → taken earlier (firstCouple earlier n) n t ≡ has (coupled (c .couples)) t) where
+  from-here : (j : ℕ) → j < tracks → byte earlier (base + 6 * j + 3) ≡ trackAt c j .from
+  unfolding trackOf
+  from-here j h = sym (byte-drop earlier (base + 6 * j + 3) 0 (base + 6 * j + 3) (omega arith)) ∙ ap (λ (r : Track). r .from) (stand j h)
+
+  to-here : (j : ℕ) → j < tracks → byte earlier (base + 6 * j + 4) ≡ trackAt c j .to
+  unfolding trackOf
+  to-here j h = sym (byte-drop earlier (base + 6 * j + 3) 1 (base + 6 * j + 4) (omega arith)) ∙ ap (λ (r : Track). r .to) (stand j h)
+
+  capacity-here : (j : ℕ) → j < tracks → byte earlier (base + 6 * j + 5) ≡ trackAt c j .capacity
+  unfolding trackOf
+  capacity-here j h = sym (byte-drop earlier (base + 6 * j + 3) 2 (base + 6 * j + 5) (omega arith)) ∙ ap (λ (r : Track). r .capacity) (stand j h)
+
+  alike-agrees : (i j : ℕ) → i < tracks → j < tracks
+      → alike earlier (base + 6 * i) (base + 6 * j)
+      ≡ leads (trackAt c j .to) (trackAt c j .from) (trackAt c i) && eqb (trackAt c i .capacity) (trackAt c j .capacity)
+  unfolding alike ends leads
+  alike-agrees i j h k =
+      rw (from-here i h, to-here i h, capacity-here i h, from-here j k, to-here j k, capacity-here j k)
+      (go (eqb (trackAt c i .from) (trackAt c j .to)) (eqb (trackAt c i .to) (trackAt c j .from)) (eqb (trackAt c i .capacity) (trackAt c j .capacity)))
+    where
+      go : (p q r : Bool) → cond (cond p q false) r false ≡ (p && q) && r
+      go true true r = refl
+      go true false r = refl
+      go false q r = refl
+
+  pub couple-agrees : (b : List ℕ) → coupleVerdict earlier base tracks n b ≡ verdict (coupleRules c (coupleOf b))
+  unfolding coupleVerdict coupleRules coupleOf unlike
+  couple-agrees b = rw (many, known i, known j) (go (leb (length (c .tracks)) i) (leb (length (c .tracks)) j) refl refl)
+    where
+      i : ℕ
+      i = byte b 0
+
+      j : ℕ
+      j = byte b 1
+
+      mirrors : Bool
+      mirrors = leads (trackAt c j .to) (trackAt c j .from) (trackAt c i)
+
+      equal : Bool
+      equal = eqb (trackAt c i .capacity) (trackAt c j .capacity)
+
+      is-coupled : ℕ → Bool
+      is-coupled t = has (coupled (c .couples)) t
+
+      tests : (p q r s : Bool) → cond (not (p && q)) 18 (cond r 18 (cond s 18 0)) ≡ firstOf (((not p || not q) || r) || s) 18 0
+      tests false q r s = refl
+      tests true false r s = refl
+      tests true true true s = refl
+      tests true true false true = refl
+      tests true true false false = refl
+
+      go : (p q : Bool) → leb (length (c .tracks)) i ≡ p → leb (length (c .tracks)) j ≡ q
+          → cond p 18 (cond q 18 (cond (not (alike earlier (base + 6 * i) (base + 6 * j))) 18 (cond (is-coupled i) 18 (cond (is-coupled j) 18 0))))
+          ≡ firstOf (((((p || q) || not mirrors) || not equal) || is-coupled i) || is-coupled j) 18 0
+      go true q e f = refl
+      go false true e f = refl
+      go false false e f =
+          let h = leb-false (length (c .tracks)) i e in
+          let k = leb-false (length (c .tracks)) j f in
+          rw (alike-agrees i j (omega arith) (omega arith)) (tests mirrors equal (is-coupled i) (is-coupled j))
+
 -- ---- lengths
 
 abbrev differ : Bool → Bool → Bool
@@ -272,4 +338,5 @@ length-agrees (suc (suc zero)) n h = ap not (or-false (eqb n 1))
 length-agrees (suc (suc (suc zero))) n h = ap not (or-false (eqb n 3))
 length-agrees (suc (suc (suc (suc zero)))) n h = train-length n
 length-agrees (suc (suc (suc (suc (suc zero))))) n h = table-length n
-length-agrees (suc (suc (suc (suc (suc (suc t)))))) n h = absurd (true≢false (sym h))
+length-agrees (suc (suc (suc (suc (suc (suc zero)))))) n h = ap not (or-false (eqb n 2))
+length-agrees (suc (suc (suc (suc (suc (suc (suc t))))))) n h = absurd (true≢false (sym h))

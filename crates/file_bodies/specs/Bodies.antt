@@ -7,7 +7,7 @@ use lib.ListN.{length}
 use lib.Dec.{leb, ltb, eqb}
 use Rattle.rules.specs.Files.{byte, word}
 use Rattle.rules.specs.Refusals.{number}
-use Rattle.rules.specs.Refusals.Fault.{outOfRange, wrongEnds, wrongPath, wrongTimes, wrongTable}
+use Rattle.rules.specs.Refusals.Fault.{outOfRange, wrongEnds, wrongPath, wrongTimes, wrongTable, wrongCouple}
 
 -- whether some k below n passes the test
 unfoldable pub anyBelow : (ℕ → Bool) → ℕ → Bool
@@ -116,6 +116,31 @@ pairsVerdict b =
 unfoldable pub tableVerdict : ℕ → ℕ → List ℕ → ℕ
 tableVerdict tables last b = cond (eqb tables 0) (pairsVerdict b) (cond (leb (byte b 0) last) (number wrongTable) (pairsVerdict b))
 
+-- the tracks' fields at i and j have ends that mirror and equal capacities
+unfoldable pub alike : List ℕ → ℕ → ℕ → Bool
+alike earlier i j = cond (ends earlier i (byte earlier (j + 4)) (byte earlier (j + 3))) (eqb (byte earlier (i + 5)) (byte earlier (j + 5))) false
+
+-- the couple's field at i has the track t
+unfoldable pub inCouple : List ℕ → ℕ → ℕ → Bool
+inCouple earlier i t = cond (eqb t (byte earlier (i + 3))) true (eqb t (byte earlier (i + 4)))
+
+-- one of n couples, in fields of five bytes from `first` on, has the track t
+unfoldable pub taken : List ℕ → ℕ → ℕ → ℕ → Bool
+taken earlier first n t = anyBelow (λ k. inCouple earlier (first + 5 * k) t) n
+
+-- where the last n fields begin, all of them couples
+abbrev pub firstCouple : List ℕ → ℕ → ℕ
+firstCouple earlier n = length earlier - 5 * n
+
+-- couple: two track numbers (1 each)
+unfoldable pub coupleVerdict : List ℕ → ℕ → ℕ → ℕ → List ℕ → ℕ
+coupleVerdict earlier base tracks n b =
+    cond (leb tracks (byte b 0)) (number wrongCouple)
+    (cond (leb tracks (byte b 1)) (number wrongCouple)
+    (cond (not (alike earlier (base + 6 * byte b 0) (base + 6 * byte b 1))) (number wrongCouple)
+    (cond (taken earlier (firstCouple earlier n) n (byte b 0)) (number wrongCouple)
+    (cond (taken earlier (firstCouple earlier n) n (byte b 1)) (number wrongCouple) 0))))
+
 -- lengths that the tag cannot have
 unfoldable pub badLength : ℕ → ℕ → Bool
 badLength tag n =
@@ -123,4 +148,5 @@ badLength tag n =
     (cond (eqb tag 2) (not (eqb n 1))
     (cond (eqb tag 3) (not (eqb n 3))
     (cond (eqb tag 4) (cond (ltb n 12) true (cond (ltb 42 n) true (not (eqb (n % 5) 2))))
-    (cond (ltb n 3) true (cond (ltb 17 n) true (not (eqb (n % 2) 1)))))))
+    (cond (eqb tag 6) (not (eqb n 2))
+    (cond (ltb n 3) true (cond (ltb 17 n) true (not (eqb (n % 2) 1))))))))

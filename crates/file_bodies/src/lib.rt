@@ -4,7 +4,7 @@ use file_fields::refusals;
 ghost use mathlib.Core.Path.{_≡_};
 ghost use Prim.Native.Nat.{_+_, _*_, _≤_, _<_};
 ghost use lib.ListN.{length};
-ghost use Rattle.file_bodies.specs.Bodies.{headVerdict, stationVerdict, ends, joined, trackVerdict, repeated, badStop, badTime, trainVerdict, timesVerdict, badPair, pairsVerdict, tableVerdict, badLength};
+ghost use Rattle.file_bodies.specs.Bodies.{headVerdict, stationVerdict, ends, joined, trackVerdict, repeated, badStop, badTime, trainVerdict, timesVerdict, badPair, pairsVerdict, tableVerdict, alike, inCouple, taken, coupleVerdict, badLength};
 
 // A head: last minute, safety time and room are in range.
 pub fn head_verdict(body: &[u8]) -> usize
@@ -231,6 +231,72 @@ fn pairs_verdict(body: &[u8]) -> usize
     refusals::WRONG_TABLE
 }
 
+// Whether the tracks' fields at i and j have ends that mirror and equal capacities.
+fn alike_at(earlier: &[u8], i: usize, j: usize) -> bool
+    requires { ⌜ (i ≤ 65536) × (j ≤ 65536) ⌝ }
+    ensures { λ r. ⌜ r ≡ alike (now (earlier .entry)) i j ⌝ }
+{
+    let to = file_fields::byte(earlier, j + 4);
+    let from = file_fields::byte(earlier, j + 3);
+    if ends_at(earlier, i, to, from) {
+        return file_fields::byte(earlier, i + 5) == file_fields::byte(earlier, j + 5);
+    }
+    false
+}
+
+// Whether the couple's field at i has the track t.
+fn in_couple(earlier: &[u8], i: usize, t: usize) -> bool
+    requires { ⌜ i ≤ 65536 ⌝ }
+    ensures { λ r. ⌜ r ≡ inCouple (now (earlier .entry)) i t ⌝ }
+{
+    if t == file_fields::byte(earlier, i + 3) {
+        return true;
+    }
+    t == file_fields::byte(earlier, i + 4)
+}
+
+// Whether one of n couples, in fields of five bytes from first on, has the track t.
+fn is_taken(earlier: &[u8], first: usize, n: usize, t: usize) -> bool
+    requires { ⌜ (first ≤ 4096) × (n ≤ 20) ⌝ }
+    ensures { λ r. ⌜ r ≡ taken (now (earlier .entry)) first n t ⌝ }
+{
+    let mut k = 0;
+    while k < n {
+        if in_couple(earlier, first + 5 * k, t) {
+            return true;
+        }
+        k += 1;
+    }
+    false
+}
+
+// A couple after n others: two known tracks whose ends mirror, of equal capacity, neither of them already coupled.
+pub fn couple_verdict(earlier: &[u8], base: usize, tracks: usize, n: usize, body: &[u8]) -> usize
+    requires { ⌜ (base ≤ 4096) × (tracks ≤ 40) ⌝ }
+    requires { ⌜ (n ≤ 20) × (5 * n ≤ length (now earlier)) × (length (now earlier) ≤ 4096) ⌝ }
+    ensures { λ r. ⌜ r ≡ coupleVerdict (now (earlier .entry)) base tracks n (now (body .entry)) ⌝ }
+{
+    let i = file_fields::byte(body, 0);
+    let j = file_fields::byte(body, 1);
+    let first = earlier.len() - 5 * n;
+    if tracks <= i {
+        return refusals::WRONG_COUPLE;
+    }
+    if tracks <= j {
+        return refusals::WRONG_COUPLE;
+    }
+    if !alike_at(earlier, base + 6 * i, base + 6 * j) {
+        return refusals::WRONG_COUPLE;
+    }
+    if is_taken(earlier, first, n, i) {
+        return refusals::WRONG_COUPLE;
+    }
+    if is_taken(earlier, first, n, j) {
+        return refusals::WRONG_COUPLE;
+    }
+    0
+}
+
 // Whether no field of the tag has n bytes.
 pub fn bad_length(tag: usize, n: usize) -> bool
     ensures { λ r. ⌜ r ≡ badLength tag n ⌝ }
@@ -252,6 +318,9 @@ pub fn bad_length(tag: usize, n: usize) -> bool
             return true;
         }
         return n % 5 != 2;
+    }
+    if tag == limits::COUPLE {
+        return n != 2;
     }
     if n < 3 {
         return true;

@@ -9,7 +9,9 @@ pub const TRAIN: usize = 4;
 
 pub const TABLE: usize = 5;
 
-pub const LAST_TAG: usize = 5;
+pub const COUPLE: usize = 6;
+
+pub const LAST_TAG: usize = 6;
 
 pub const MOST_STATIONS: usize = 24;
 
@@ -18,3 +20,5 @@ pub const MOST_TRACKS: usize = 40;
 pub const MOST_TRAINS: usize = 7;
 
 pub const MOST_TABLES: usize = 8;
+
+pub const MOST_COUPLES: usize = 20;

@@ -30,3 +30,5 @@ pub const WRONG_CHOICE: usize = 15;
 pub const NO_TRAIN: usize = 16;
 
 pub const STOP_TOO_LATE: usize = 17;
+
+pub const WRONG_COUPLE: usize = 18;

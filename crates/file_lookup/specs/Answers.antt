@@ -16,7 +16,7 @@ use Rattle.file_lookup.specs.declared.Files.{Files}
 use Rattle.file_lookup.specs.declared.Files.the-variants.{Sound, Unsound}
 
 abbrev pub sizesOf : Case → Sizes
-sizesOf C = record { stations = length (C .stations); tracks = length (C .tracks); trains = length (C .trains) }
+sizesOf C = record { stations = length (C .stations); tracks = length (C .tracks); trains = length (C .trains); couples = length (C .couples) }
 
 abbrev pub filesOf : Result Case → Files
 filesOf (refused r) = Unsound (r .number) (r .file) (r .place)

@@ -17,6 +17,7 @@ use Rattle.file_reader.specs.declared.Reading.the-variants.{Accepted, Refused}
 use Rattle.file_reader.specs.Answers.{countsOf, readingOf}
 use Rattle.file_reader.specs.Laws.{accepted-refused}
 use Rattle.file_reader.specs.Final.{refused-file}
+use Rattle.file_lookup.specs.declared.Sizes.{Sizes}
 use Rattle.file_lookup.specs.declared.Files.the-variants.{Sound, Unsound}
 use Rattle.file_lookup.specs.Lookup.{tableBytes, lackingPlace}
 use Rattle.file_lookup.specs.Answers.{filesOf, ofFile, Looked}
@@ -24,6 +25,10 @@ use Rattle.file_lookup.specs.Agree.{table-first, lacking-agrees}
 
 pub looked : {cs bk : List ℕ} {t : ℕ} {b : List ℕ} → b ≡ tableBytes cs bk t → Looked cs bk t b
 looked {cs} {bk} {t} {b} h = record { bytes = h; first = λ c k hc hk. rw h (table-first cs bk c k hc hk t) }
+
+-- how large a case of these counts is
+abbrev pub sizesIn : Counts → Sizes
+sizesIn s = record { stations = s .stations; tracks = s .tracks; trains = s .trains; couples = s .couples }
 
 -- 11 by train number, of contents that were accepted
 abbrev byTypes : Contents → Contents → Result Case
@@ -67,15 +72,15 @@ module _ (cs bk : List ℕ) where
         go (answer c) h = absurd (accepted-refused _ _ _ (sym (f ∙ ap readingOf h) ∙ g))
 
     module _ {q : Reading} {u : Counts} {i : ℕ} (f : q ≡ readingOf (read book bk)) (g : q ≡ Accepted u) (h : i ≡ lackingPlace cs bk) where
-      both : (x : Bool) → ltb i (length cs) ≡ x → filesOf (files cs bk) ≡ cond x (Unsound 11 0 i) (Sound (record { stations = s .stations; tracks = s .tracks; trains = s .trains }))
+      both : (x : Bool) → ltb i (length cs) ≡ x → filesOf (files cs bk) ≡ cond x (Unsound 11 0 i) (Sound (sizesIn s))
       unfolding files caseOf
       both x t = rw (of-case .is) (go (read book bk) refl)
         where
-          to : (x : Bool) (c k : Contents) → s ≡ countsOf c → filesOf (cond x (refuse 11 (spot case i)) (answer (caseOf c k))) ≡ cond x (Unsound 11 0 i) (Sound (record { stations = s .stations; tracks = s .tracks; trains = s .trains }))
+          to : (x : Bool) (c k : Contents) → s ≡ countsOf c → filesOf (cond x (refuse 11 (spot case i)) (answer (caseOf c k))) ≡ cond x (Unsound 11 0 i) (Sound (sizesIn s))
           to true c k n = refl
-          to false c k n = sym (ap (λ (w : Counts). Sound (record { stations = w .stations; tracks = w .tracks; trains = w .trains })) n)
+          to false c k n = sym (ap (λ (w : Counts). Sound (sizesIn w)) n)
 
-          go : (a : Result Contents) → read book bk ≡ a → filesOf (then a (byTypes (of-case .inside))) ≡ cond x (Unsound 11 0 i) (Sound (record { stations = s .stations; tracks = s .tracks; trains = s .trains }))
+          go : (a : Result Contents) → read book bk ≡ a → filesOf (then a (byTypes (of-case .inside))) ≡ cond x (Unsound 11 0 i) (Sound (sizesIn s))
           go (refused w) m = absurd (accepted-refused _ _ _ (sym g ∙ f ∙ ap readingOf m))
           go (answer k) m =
               ap filesOf (lacking-agrees cs bk (of-case .inside) k (of-case .is) m (caseOf (of-case .inside) k))
@@ -86,5 +91,5 @@ module _ (cs bk : List ℕ) where
       files-types k = sym (both true (lt-ltb i (length cs) k))
 
       -- both files stand
-      pub files-sound : length cs ≤ i → Sound (record { stations = s .stations; tracks = s .tracks; trains = s .trains }) ≡ filesOf (files cs bk)
+      pub files-sound : length cs ≤ i → Sound (sizesIn s) ≡ filesOf (files cs bk)
       files-sound k = sym (both false (le-ltb i (length cs) k))

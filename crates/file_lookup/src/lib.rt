@@ -16,6 +16,7 @@ pub struct Sizes {
     pub stations: usize,
     pub tracks: usize,
     pub trains: usize,
+    pub couples: usize,
 }
 
 // Case and book: accepted, or refused with a number, the file (0 case, 1 book) and a place.
@@ -211,5 +212,6 @@ pub fn read_files(case: &[u8], book: &[u8]) -> Files
         stations: s.stations,
         tracks: s.tracks,
         trains: s.trains,
+        couples: s.couples,
     })
 }

@@ -22,16 +22,16 @@ use Rattle.theory_lists.specs.Every.{Every, every-more}
 use Rattle.theory_sound.specs.Facts.{Sound}
 use Rattle.theory_sound.specs.Ways.{same-true, same-self}
 use Rattle.theory_sound.specs.Trains.{way-known, way-apart}
-use Rattle.theory_sound.specs.Accepted.{accepted-sound}
+use Rattle.theory_sound.specs.Accepted.{accepted-sound, accepted-couples}
 use Rattle.file_fields.specs.Fields.{past}
 use Rattle.file_lookup.specs.declared.Sizes.{Sizes}
 use Rattle.file_lookup.specs.Answers.{sizesOf}
 use Rattle.theory_lists.specs.Below.{getD-below, length-span-map}
-use Rattle.file_tables.specs.Model.{tracksFrom, walkNext, walkStay, firstStation, nextRow, stayRow, orderBy, priorityOf, headPart, trainRow, trainPart, pairPart, capacityPart, nextPart, stayPart, trackPlace, trainPlace, allParts}
+use Rattle.file_tables.specs.Model.{tracksFrom, walkNext, walkStay, firstStation, nextRow, stayRow, orderBy, priorityOf, headPart, trainRow, trainPart, pairPart, capacityPart, nextPart, stayPart, partnerPart, trackPlace, trainPlace, allParts}
 use Rattle.file_tables.specs.Walks.{walkNext-length, walkStay-length}
 use Rattle.file_plan.specs.Ways.{next-at, next-outside, stay-at, stay-outside, start-low, start-high}
 use Rattle.file_plan.specs.Decoded.{Decoded, decoded}
-use Rattle.file_plan.specs.Parts.{count, few, train-at, train-none, rows-of, one-value, order-part, last-part, plan-part, first-part, number-part, delays-part, weights-part, capacities-part}
+use Rattle.file_plan.specs.Parts.{count, few, train-at, train-none, rows-of, one-value, order-part, last-part, plan-part, first-part, number-part, delays-part, weights-part, capacities-part, partners-part}
 
 -- up to the way out no code is the outside's
 inside-code : (p : ℕ) → p ≤ 64 → same (placeOf p) outside ≡ false
@@ -137,15 +137,16 @@ module _ (cs bk : List ℕ) (C : Case) (s r n : ℕ) (D : Decoded cs bk C s r n)
   heads-part : headTable C ≡ n ∷ word cs 3 ∷ byte cs 5 ∷ word cs 6 ∷ 0 ∷ 0 ∷ 0 ∷ 0 ∷ []
   heads-part = cc (count cs bk C s r n D, D .head .last-minute, D .head .safety, D .head .room)
 
-  regroup : (h o l p f m d w c x y : List ℕ)
-      → (((((h ++ ((((o ++ l) ++ p) ++ f) ++ m)) ++ (d ++ w)) ++ c) ++ x) ++ y)
-      ≡ ((h ++ o) ++ ((l ++ (p ++ (f ++ m))) ++ (d ++ w))) ++ (c ++ (x ++ y))
-  regroup h o l p f m d w c x y = simp append-assoc
+  regroup : (h o l p f m d w c x y z : List ℕ)
+      → ((((((h ++ ((((o ++ l) ++ p) ++ f) ++ m)) ++ (d ++ w)) ++ c) ++ x) ++ y) ++ z)
+      ≡ ((h ++ o) ++ ((l ++ (p ++ (f ++ m))) ++ (d ++ w))) ++ (c ++ ((x ++ y) ++ z))
+  regroup h o l p f m d w c x y z = simp append-assoc
 
-  pub decoded-tables : tables C ≡ allParts cs bk s r n
+  pub decoded-tables : tables C ≡ allParts cs bk s r n (length (C .couples))
   unfolding tables headPart trainPart
   decoded-tables =
       ap₂ _++_
+      (ap₂ _++_
       (ap₂ _++_
       (ap₂ _++_
       (ap₂ _++_
@@ -154,26 +155,28 @@ module _ (cs bk : List ℕ) (C : Case) (s r n : ℕ) (D : Decoded cs bk C s r n)
       (ap₂ _++_ (delays-part cs bk C s r n D) (weights-part cs bk C s r n D)))
       (capacities-part cs bk C s r n D))
       nexts-part)
-      stays-part
+      stays-part)
+      (partners-part cs bk C s r n D)
       ∙ regroup (n ∷ word cs 3 ∷ byte cs 5 ∷ word cs 6 ∷ 0 ∷ 0 ∷ 0 ∷ 0 ∷ []) (orderBy (priorityOf cs o n) n ++ replicate (8 - n) 0)
       (trainRow cs bk n o 0) (trainRow cs bk n o 1) (trainRow cs bk n o 2) (trainRow cs bk n o 3)
-      (pairPart cs bk n o 1) (pairPart cs bk n o 2) (capacityPart cs s r) (nextPart cs ts n o) (stayPart cs ts n o)
+      (pairPart cs bk n o 1) (pairPart cs bk n o 2) (capacityPart cs s r) (nextPart cs ts n o) (stayPart cs ts n o) (partnerPart cs (length (C .couples)))
 
 -- from the files alone
 pub parts-tables : (cs bk : List ℕ) (C : Case) → files cs bk ≡ answer C
-    → allParts cs bk (length (C .stations)) (length (C .tracks)) (length (C .trains)) ≡ tables C
+    → allParts cs bk (length (C .stations)) (length (C .tracks)) (length (C .trains)) (length (C .couples)) ≡ tables C
 parts-tables cs bk C h =
     sym (decoded-tables cs bk C (length (C .stations)) (length (C .tracks)) (length (C .trains)) (decoded cs bk C h))
 
 -- by the sizes that the reading hands on
 module _ (cs bk : List ℕ) (C : Case) (h : files cs bk ≡ answer C) (z : Sizes) (e : z ≡ sizesOf C) where
-  pub sizes-tables : allParts cs bk (z .stations) (z .tracks) (z .trains) ≡ tables C
-  sizes-tables = ap (λ (y : Sizes). allParts cs bk (y .stations) (y .tracks) (y .trains)) e ∙ parts-tables cs bk C h
+  pub sizes-tables : allParts cs bk (z .stations) (z .tracks) (z .trains) (z .couples) ≡ tables C
+  sizes-tables = ap (λ (y : Sizes). allParts cs bk (y .stations) (y .tracks) (y .trains) (y .couples)) e ∙ parts-tables cs bk C h
 
-  pub sizes-few : (z .stations ≤ 24) × (z .tracks ≤ 40) × (z .trains ≤ 8)
+  pub sizes-few : (z .stations ≤ 24) × (z .tracks ≤ 40) × (z .trains ≤ 8) × (z .couples ≤ 20)
   sizes-few =
       let y = accepted-sound cs bk C h in
       let a = ap (λ (x : Sizes). x .stations) e in
       let b = ap (λ (x : Sizes). x .tracks) e in
       let d = ap (λ (x : Sizes). x .trains) e in
-      (omega (arith, y .few-stations), omega (arith, y .few-tracks), omega (arith, y .few-trains))
+      let f = ap (λ (x : Sizes). x .couples) e in
+      (omega (arith, y .few-stations), omega (arith, y .few-tracks), omega (arith, y .few-trains), omega (arith, accepted-couples cs bk C h))

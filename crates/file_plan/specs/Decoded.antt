@@ -1,4 +1,4 @@
--- An accepted case from the bytes of its two files: its stations, tracks and trains as they stand, and each train's pairs from its table.
+-- An accepted case from the bytes of its two files: its stations, tracks, trains and couples as they stand, and each train's pairs from its table.
 -- Where things stand is the reading's; the tables are the lookup's. Assumes nothing.
 use mathlib.Core.Path.{_≡_, refl, ap, ap₂, sym, _∙_, subst}
 use mathlib.Core.List.{List, _∷_, map}
@@ -11,7 +11,7 @@ use Rattle.theory_sound.specs.Facts.{Sound}
 use Rattle.theory_sound.specs.Accepted.{Reads, accepted-reads, accepted-sound}
 use Rattle.file_fields.specs.Fields.{past}
 use Rattle.file_lookup.specs.Tables.{table-pairs}
-use Rattle.file_tables.specs.Model.{gather, tracksFrom, trainIn, tableIn, trackPlace, trainPlace}
+use Rattle.file_tables.specs.Model.{gather, tracksFrom, trainIn, tableIn, coupleIn, couplesFrom, couplePlace, trackPlace, trainPlace}
 use Rattle.file_tables.specs.Fills.{length-gather}
 use Rattle.file_plan.specs.Layout.{HeadAt, stationIn, Laid, case-laid}
 
@@ -20,6 +20,7 @@ pub record Decoded (cs bk : List ℕ) (C : Case) (s r n : ℕ) : Type 0 where
   pub tracks : C .tracks ≡ tracksFrom cs r (trackPlace s)
   pub trains : C .trains ≡ gather (trainIn cs) (past cs) n (trainPlace s r)
   pub pairs : C .tables ≡ gather (λ o. tableOf (tableIn cs bk o) .pairs) (past cs) n (trainPlace s r)
+  pub couples : C .couples ≡ couplesFrom cs (length (C .couples)) (couplePlace cs (length (C .couples)))
   pub head : HeadAt cs (C .head)
   pub sound : Sound C
 
@@ -68,6 +69,12 @@ decoded cs bk C h = rw (n₁, n₂, n₃) made
     n₃ : length (C .trains) ≡ w .n
     n₃ = ap length (ts ∙ w .trains) ∙ length-gather (trainIn cs) (past cs) (w .n) o
 
+    qs : C .couples ≡ couplesFrom cs (w .q) (couplePlace cs (w .q))
+    qs = ap (λ (D : Case). D .couples) (x .assembled) ∙ w .couples
+
+    n₄ : length (C .couples) ≡ w .q
+    n₄ = ap length qs ∙ length-gather (coupleIn cs) (λ i. i + 5) (w .q) (couplePlace cs (w .q))
+
     -- a case with a train has a head
     headed : (t : ℕ) → (t ≤ 3 → w .n ≡ 0) → 1 ≤ t
     headed zero e = let z = e (omega arith) in omega (arith, y .some-train, n₃)
@@ -83,6 +90,7 @@ decoded cs bk C h = rw (n₁, n₂, n₃) made
       trains = ts ∙ w .trains;
       pairs = ap (λ (D : Case). D .tables) (x .assembled) ∙ ap (map (λ t. firstPairs (tablesOf c k (t .type)))) (w .trains)
           ∙ gather-map (λ t. firstPairs (tablesOf c k (t .type))) (trainIn cs) _ (past cs) found (w .n) o;
+      couples = qs ∙ ap (λ (m : ℕ). couplesFrom cs m (couplePlace cs m)) (sym n₄);
       head = subst (HeadAt cs) (sym (ap (λ (D : Case). D .head) (x .assembled))) (w .head (headed (c .rank) (w .no-trains)));
       sound = y;
     }

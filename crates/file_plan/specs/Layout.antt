@@ -1,4 +1,4 @@
--- Where the things of an accepted case stand: the head, 4 bytes a station, 6 bytes a track, and then the trains one after another.
+-- Where the things of an accepted case stand: the head, 4 bytes a station, 6 bytes a track, then the trains one after another; last the couples, 5 bytes each.
 -- Each accepted field keeps this of the file as far as it was read, and a train's field says what its bytes say. Assumes nothing.
 use mathlib.Core.Path.{_≡_, refl, ap, ap₂, sym, _∙_}
 use mathlib.Core.Bool.{Bool, true, false, cond, not, _&&_, false≢true}
@@ -12,16 +12,16 @@ use lib.Dec.{leb, eqb}
 use borrow.Author.Tests.{eqb-false, leb-true}
 use Rattle.rules.specs.Lists.{has, span}
 use Rattle.rules.specs.Refusals.Result.{answer}
-use Rattle.rules.specs.Files.{Head, Track, Stop, Train, Contents, Kind, byte, word, headOf, trackOf, stopOf, trainOf, rank, is, kind, known, inPlace, lengths, size, body, more, empty, read}
+use Rattle.rules.specs.Files.{Head, Track, Stop, Train, Couple, Contents, Kind, byte, word, headOf, trackOf, stopOf, trainOf, coupleOf, rank, is, kind, known, inPlace, lengths, size, body, more, empty, read}
 use Rattle.rules.specs.Files.File.{case}
-use Rattle.rules.specs.Files.Kind.{head, station, track, train, table, noField}
+use Rattle.rules.specs.Files.Kind.{head, station, track, train, table, couple, noField}
 use Rattle.theory_lists.specs.Every.{has-every}
 use Rattle.theory_sound.specs.Verdicts.{Field, field-accepted, withField}
 use Rattle.theory_sound.specs.Kept.{head-first}
 use Rattle.file_fields.specs.Fields.{past}
 use Rattle.file_fields.specs.At.{byte-part, size-here, body-here}
 use Rattle.file_reader.specs.Along.{read-along}
-use Rattle.file_tables.specs.Model.{onward, gather, trackIn, tracksFrom, stopIn, stopsAt, trainIn, trackPlace, trainPlace}
+use Rattle.file_tables.specs.Model.{onward, gather, trackIn, tracksFrom, stopIn, stopsAt, trainIn, coupleIn, couplesFrom, trackPlace, trainPlace}
 use Rattle.file_tables.specs.Fills.{onward-more, gather-more}
 
 -- ---- what a body says is what the file says there
@@ -41,6 +41,9 @@ module _ (w : List ℕ) (at : ℕ) where
 
 track-same : (a b : Track) → a .from ≡ b .from → a .to ≡ b .to → a .capacity ≡ b .capacity → a ≡ b
 track-same a b p q r = λ i. record { from = p i; to = q i; capacity = r i }
+
+couple-same : (a b : Couple) → a .first ≡ b .first → a .second ≡ b .second → a ≡ b
+couple-same a b p q = λ i. record { first = p i; second = q i }
 
 stop-same : (a b : Stop) → a .station ≡ b .station → a .arrival ≡ b .arrival → a .departure ≡ b .departure → a ≡ b
 stop-same a b p q r = λ i. record { station = p i; arrival = q i; departure = r i }
@@ -64,6 +67,10 @@ module _ (w : List ℕ) (at : ℕ) where
   unfolding trackOf trackIn
   track-read z =
       track-same _ _ (body-byte w at 0 (at + 3) (omega arith) (omega arith)) (body-byte w at 1 (at + 4) (omega arith) (omega arith)) (body-byte w at 2 (at + 5) (omega arith) (omega arith))
+
+  couple-read : size (drop at w) ≡ 2 → coupleOf (body (drop at w)) ≡ coupleIn w at
+  unfolding coupleOf coupleIn
+  couple-read z = couple-same _ _ (body-byte w at 0 (at + 3) (omega arith) (omega arith)) (body-byte w at 1 (at + 4) (omega arith) (omega arith))
 
   stop-read : (k : ℕ) → 2 + 5 * k + 5 ≤ size (drop at w) → stopOf (drop (2 + 5 * k) (body (drop at w))) ≡ stopIn w (at + 5 + 5 * k)
   unfolding stopOf stopIn
@@ -99,13 +106,17 @@ pub record Laid (w : List ℕ) (at : ℕ) (c : Contents) : Type 0 where
   pub s : ℕ
   pub r : ℕ
   pub n : ℕ
+  pub q : ℕ
   pub stations : c .stations ≡ gather (stationIn w) (λ i. i + 4) s 8
   pub tracks : c .tracks ≡ tracksFrom w r (trackPlace s)
   pub trains : c .trains ≡ gather (trainIn w) (past w) n (trainPlace s r)
+  pub couples : c .couples ≡ couplesFrom w q (at - 5 * q)
   pub head : 1 ≤ c .rank → HeadAt w (c .head)
   pub start : c .rank ≡ 0 → (at ≡ 0) × (s ≡ 0)
   pub no-tracks : c .rank ≤ 2 → r ≡ 0
   pub no-trains : c .rank ≤ 3 → n ≡ 0
+  pub no-couples : c .rank ≤ 5 → q ≡ 0
+  pub behind : 5 * q ≤ at
   pub here : 1 ≤ c .rank → c .rank ≤ 4 → at ≡ onward (past w) n (trainPlace s r)
 
 laid-empty : (w : List ℕ) → Laid w 0 empty
@@ -113,13 +124,17 @@ laid-empty w = record {
   s = 0;
   r = 0;
   n = 0;
+  q = 0;
   stations = refl;
   tracks = refl;
   trains = refl;
+  couples = refl;
   head = λ h. absurd (not-suc-le-zero h);
   start = λ h. (refl, refl);
   no-tracks = λ h. refl;
   no-trains = λ h. refl;
+  no-couples = λ h. refl;
+  behind = omega arith;
   here = λ h k. absurd (not-suc-le-zero h);
 }
 
@@ -154,6 +169,10 @@ module _ (w : List ℕ) (c : Contents) (at : ℕ) (d : Field case c at (drop at 
   abbrev none : {A : Type 0} (a : List A) → a ++ [] ≡ a
   none a = append-nil a
 
+  -- no couple stands before a field of another kind
+  uncoupled : c .rank ≤ 5 → c .couples ++ [] ≡ []
+  uncoupled h = none _ ∙ p .couples ∙ ap (λ (m : ℕ). couplesFrom w m (at - 5 * m)) (p .no-couples h)
+
   head-step : Step head
   unfolding more headOf lengths
   head-step i k =
@@ -166,9 +185,11 @@ module _ (w : List ℕ) (c : Contents) (at : ℕ) (d : Field case c at (drop at 
         s = 0;
         r = 0;
         n = 0;
+        q = 0;
         stations = none _ ∙ p .stations ∙ ap (λ (m : ℕ). gather (stationIn w) (λ i. i + 4) m 8) (e .1);
         tracks = none _ ∙ p .tracks ∙ ap (λ (m : ℕ). tracksFrom w m (trackPlace (p .s))) r;
         trains = none _ ∙ p .trains ∙ ap (λ (m : ℕ). gather (trainIn w) (past w) m (trainPlace (p .s) (p .r))) n;
+        couples = uncoupled (omega arith);
         head = λ h. record {
           last-minute = body-word w at 0 3 (omega arith) (omega (arith, e .0));
           safety = body-byte w at 2 5 (omega arith) (omega (arith, e .0));
@@ -177,6 +198,8 @@ module _ (w : List ℕ) (c : Contents) (at : ℕ) (d : Field case c at (drop at 
         start = λ h. absurd (omega arith);
         no-tracks = λ h. refl;
         no-trains = λ h. refl;
+        no-couples = λ h. refl;
+        behind = omega arith;
         here = λ h m. omega (arith, e .0, z);
       }
 
@@ -192,14 +215,18 @@ module _ (w : List ℕ) (c : Contents) (at : ℕ) (d : Field case c at (drop at 
         s = suc (p .s);
         r = 0;
         n = 0;
+        q = 0;
         stations = ap₂ (λ (x : List ℕ) (y : ℕ). x ++ (y ∷ [])) (p .stations) (body-byte w at 0 (onward (λ i. i + 4) (p .s) 8 + 3) (omega arith) (omega (arith, onward-add 4 (p .s) 8)))
             ∙ sym (gather-more (stationIn w) (λ i. i + 4) (p .s) 8);
         tracks = none _ ∙ p .tracks ∙ ap (λ (m : ℕ). tracksFrom w m (trackPlace (p .s))) r;
         trains = none _ ∙ p .trains ∙ ap (λ (m : ℕ). gather (trainIn w) (past w) m (trainPlace (p .s) (p .r))) n;
+        couples = uncoupled (omega arith);
         head = λ h. p .head (t .0);
         start = λ h. absurd (omega arith);
         no-tracks = λ h. refl;
         no-trains = λ h. refl;
+        no-couples = λ h. refl;
+        behind = omega arith;
         here = λ h m. omega (arith, z);
       }
 
@@ -215,14 +242,18 @@ module _ (w : List ℕ) (c : Contents) (at : ℕ) (d : Field case c at (drop at 
         s = p .s;
         r = suc (p .r);
         n = 0;
+        q = 0;
         stations = none _ ∙ p .stations;
         tracks = ap₂ (λ (x : List Track) (y : Track). x ++ (y ∷ [])) (p .tracks) (track-read w at q ∙ ap (trackIn w) o)
             ∙ sym (gather-more (trackIn w) (λ i. i + 6) (p .r) (trackPlace (p .s)));
         trains = none _ ∙ p .trains ∙ ap (λ (m : ℕ). gather (trainIn w) (past w) m (trainPlace (p .s) (p .r))) n;
+        couples = uncoupled (omega arith);
         head = λ h. p .head (t .0);
         start = λ h. absurd (omega arith);
         no-tracks = λ h. absurd (omega arith);
         no-trains = λ h. refl;
+        no-couples = λ h. refl;
+        behind = omega arith;
         here = λ h m. omega (arith, z);
       }
 
@@ -236,14 +267,18 @@ module _ (w : List ℕ) (c : Contents) (at : ℕ) (d : Field case c at (drop at 
         s = p .s;
         r = p .r;
         n = suc (p .n);
+        q = 0;
         stations = none _ ∙ p .stations;
         tracks = none _ ∙ p .tracks;
         trains = ap₂ (λ (x : List Train) (y : Train). x ++ (y ∷ [])) (p .trains) (train-read w at q (d .whole) z ∙ ap (trainIn w) a)
             ∙ sym (gather-more (trainIn w) (past w) (p .n) (trainPlace (p .s) (p .r)));
+        couples = uncoupled (omega arith);
         head = λ h. p .head (t .0);
         start = λ h. absurd (omega arith);
         no-tracks = λ h. absurd (omega arith);
         no-trains = λ h. absurd (omega arith);
+        no-couples = λ h. refl;
+        behind = omega arith;
         here = λ h m. ap (past w) a ∙ sym (onward-more (past w) (past w) (p .n) (trainPlace (p .s) (p .r)));
       }
 
@@ -255,13 +290,44 @@ module _ (w : List ℕ) (c : Contents) (at : ℕ) (d : Field case c at (drop at 
         s = p .s;
         r = p .r;
         n = p .n;
+        q = 0;
         stations = none _ ∙ p .stations;
         tracks = none _ ∙ p .tracks;
         trains = none _ ∙ p .trains;
+        couples = uncoupled (omega arith);
         head = λ h. p .head (t .0);
         start = λ h. absurd (omega arith);
         no-tracks = λ h. absurd (omega arith);
         no-trains = λ h. absurd (omega arith);
+        no-couples = λ h. refl;
+        behind = omega arith;
+        here = λ h m. absurd (omega arith);
+      }
+
+  couple-step : Step couple
+  unfolding more lengths
+  couple-step i k =
+      let t = rises c couple refl i in
+      let e = has-every (λ m. m ≡ 2) (2 ∷ []) (size l) (refl, tt) k in
+      let first : past w at - 5 * suc (p .q) ≡ at - 5 * p .q = omega (arith, z, p .behind) in
+      let o : at ≡ onward (λ i. i + 5) (p .q) (at - 5 * p .q) = omega (arith, onward-add 5 (p .q) (at - 5 * p .q), p .behind) in
+      record {
+        s = p .s;
+        r = p .r;
+        n = p .n;
+        q = suc (p .q);
+        stations = none _ ∙ p .stations;
+        tracks = none _ ∙ p .tracks;
+        trains = none _ ∙ p .trains;
+        couples = ap₂ (λ (x : List Couple) (y : Couple). x ++ (y ∷ [])) (p .couples) (couple-read w at e ∙ ap (coupleIn w) o)
+            ∙ sym (gather-more (coupleIn w) (λ i. i + 5) (p .q) (at - 5 * p .q))
+            ∙ ap (couplesFrom w (suc (p .q))) (sym first);
+        head = λ h. p .head (t .0);
+        start = λ h. absurd (omega arith);
+        no-tracks = λ h. absurd (omega arith);
+        no-trains = λ h. absurd (omega arith);
+        no-couples = λ h. absurd (omega arith);
+        behind = omega (arith, z, p .behind);
         here = λ h m. absurd (omega arith);
       }
 
@@ -273,6 +339,7 @@ module _ (w : List ℕ) (c : Contents) (at : ℕ) (d : Field case c at (drop at 
   step track a = track-step
   step train a = train-step
   step table a = table-step
+  step couple a = couple-step
 
   laid-step : Laid w (past w at) (withField c at l)
   laid-step = step (kind l) (d .a-tag) (d .in-place) (d .a-length)

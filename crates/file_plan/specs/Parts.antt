@@ -1,4 +1,4 @@
--- The parts that are filled from the bytes are the parts of the tables of the case: the words of the trains, their order, their pairs and the capacities.
+-- The parts that are filled from the bytes are the parts of the tables of the case: words of the trains, their order, their pairs, capacities and partners.
 -- Each is compared word by word, for the trains that are there and for those up to the eighth that are not. Assumes nothing.
 use mathlib.Core.Path.{_≡_, refl, ap, ap₂, sym, _∙_}
 use mathlib.Core.Bool.{Bool, true, false, cond}
@@ -17,12 +17,12 @@ use Rattle.rules.specs.Turns.Place.{outside, station, track, gone}
 use Rattle.rules.specs.Single.{pairAt, firstArrival}
 use Rattle.rules.specs.Figures.{plan}
 use Rattle.theory_codes.specs.Codes.{codeOf, placeOf}
-use Rattle.theory_codes.specs.Tables.{insert, order, perTrain, perPair}
+use Rattle.theory_codes.specs.Tables.{insert, order, perTrain, perPair, partnerIn, partnerCode}
 use Rattle.file_fields.specs.Fields.{past}
 use Rattle.file_fields.specs.At.{byte-drop}
 use Rattle.theory_sound.specs.Bodies.{pairs-count}
 use Rattle.theory_lists.specs.Below.{getD-below, length-span-map}
-use Rattle.file_tables.specs.Model.{onward, gather, rows, trackIn, trainIn, stopWord, pairsIn, tableIn, trainWord, pairWord, pairRow, capacityWord, priorityOf, insertBy, orderBy, trainRow, pairPart, capacityPart, trackPlace, trainPlace}
+use Rattle.file_tables.specs.Model.{onward, gather, rows, trackIn, trainIn, stopWord, pairsIn, tableIn, trainWord, pairWord, pairRow, capacityWord, priorityOf, insertBy, orderBy, trainRow, pairPart, capacityPart, coupleIn, couplesFrom, couplePlace, partnerFrom, partnerWord, partnerPart, trackPlace, trainPlace}
 use Rattle.file_tables.specs.Fills.{length-gather, getD-gather, onward-zero, order-length, pad-length}
 use Rattle.file_plan.specs.Layout.{stationIn, onward-add, span-gather}
 use Rattle.file_plan.specs.Decoded.{Decoded, gather-map}
@@ -257,3 +257,24 @@ module _ (cs bk : List ℕ) (C : Case) (s r n : ℕ) (D : Decoded cs bk C s r n)
   capacities-part =
       span-gather (λ e. capacity C (placeOf e)) (capacityWord cs s r) suc 64 0 0
       (λ e h. ap (λ (i : ℕ). capacity C (placeOf i)) (zero-add e) ∙ capacity-same e h ∙ ap (capacityWord cs s r) (sym (onward-zero e)))
+
+  -- ---- partners
+
+  partner-found : (j m i : ℕ) → partnerIn j (couplesFrom cs m i) ≡ partnerFrom cs j m i
+  unfolding coupleIn
+  partner-found j zero i = refl
+  partner-found j (suc m) i =
+      ap (λ (x : ℕ). cond (eqb j (byte cs (i + 3))) (24 + byte cs (i + 4)) (cond (eqb j (byte cs (i + 4))) (24 + byte cs (i + 3)) x)) (partner-found j m (i + 5))
+
+  partner-same : (q e : ℕ) → C .couples ≡ couplesFrom cs q (couplePlace cs q) → partnerCode C e ≡ partnerWord cs q (couplePlace cs q) e
+  unfolding partnerCode partnerWord
+  partner-same q e h = ap (λ (x : ℕ). cond (ltb e 24) 0 x) (ap (partnerIn (e - 24)) h ∙ partner-found (e - 24) q (couplePlace cs q))
+
+  pub partners-part : map (partnerCode C) (below 64) ≡ partnerPart cs (length (C .couples))
+  unfolding partnerPart
+  partners-part =
+      span-gather (partnerCode C) (partnerWord cs q (couplePlace cs q)) suc 64 0 0
+      (λ e h. ap (partnerCode C) (zero-add e) ∙ partner-same q e (D .couples) ∙ ap (partnerWord cs q (couplePlace cs q)) (sym (onward-zero e)))
+    where
+      q : ℕ
+      q = length (C .couples)

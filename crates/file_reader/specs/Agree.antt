@@ -9,11 +9,11 @@ use lib.ListN.{length, drop, drop-of-length-le}
 use lib.Dec.{leb, eqb}
 use borrow.Author.Tests.{leb-true, leb-false}
 use Rattle.rules.specs.Refusals.{Result, verdict, firstOf, then, answerUnless}
-use Rattle.rules.specs.Files.{File, Contents, kindOf, spot, more, endRules, readField, readFields, empty, read}
+use Rattle.rules.specs.Files.{File, Contents, coupled, kindOf, spot, more, endRules, readField, readFields, empty, read}
 use Rattle.rules.specs.Files.File.{case, book}
 use Rattle.file_fields.specs.Fields.{past}
 use Rattle.file_fields.specs.At.{read-here}
-use Rattle.file_bodies.specs.Bodies.{joined}
+use Rattle.file_bodies.specs.Bodies.{joined, taken}
 use Rattle.file_bodies.specs.Search.{any-none}
 use Rattle.file_reader.specs.declared.Seen.{Seen}
 use Rattle.file_reader.specs.declared.Reading.the-variants.{Accepted, Refused}
@@ -26,7 +26,7 @@ use Rattle.file_reader.specs.More.{holds-next}
 use Rattle.file_reader.specs.Answers.{countsOf, readingOf}
 
 counts-same : (f : File) (l : List ℕ) (s : Seen) (c : Contents) → Holds f l s c → countsSeen s ≡ countsOf c
-counts-same f l s c h = rw (h .stations, h .tracks, h .trains, h .tables)
+counts-same f l s c h = rw (h .stations, h .tracks, h .trains, h .tables, h .couples)
 
 -- ---- the end
 
@@ -34,7 +34,7 @@ end-agrees : (f : File) (l : List ℕ) (s : Seen) (c : Contents) → Holds f l s
 unfolding atEnd endRules
 end-agrees case l s c h =
     let z : eqb (s .heads) 0 ≡ eqb (c .rank) 0 = sym (same-zero (s .tag) (s .heads) (h .of-file .unheaded) (h .of-file .placed .headed)) ∙ ap (λ (k : ℕ). eqb k 0) (sym (h .same-rank)) in
-    rw (z, ← h .stations, ← h .tracks, ← h .trains, ← h .tables) (go (eqb (c .rank) 0) (eqb (length (c .stations)) 0) (eqb (length (c .trains)) 0))
+    rw (z, ← h .stations, ← h .tracks, ← h .trains, ← h .tables, ← h .couples) (go (eqb (c .rank) 0) (eqb (length (c .stations)) 0) (eqb (length (c .trains)) 0))
   where
     go : (p q r : Bool) → cond p (Refused 5 (s .at)) (cond q (Refused 5 (s .at)) (cond r (Refused 5 (s .at)) (Accepted (countsOf c)))) ≡ readingOf (answerUnless (firstOf ((p || q) || r) 5 0) (spot case (s .at)) c)
     go true q r = refl
@@ -77,11 +77,21 @@ agrees f l (suc n) s c h w k = go (leb (length l) (s .at)) refl (λ t d. agrees 
 
 -- nothing read yet
 pub holds-start : (f : File) (l : List ℕ) → Holds f l start empty
-unfolding joined
-holds-start f l = record { same-rank = refl; stations = refl; tracks = refl; trains = refl; tables = refl; types = λ x. refl; of-file = go f }
+unfolding joined taken coupled
+holds-start f l = record { same-rank = refl; stations = refl; tracks = refl; trains = refl; tables = refl; couples = refl; types = λ x. refl; of-file = go f }
   where
     go : (f : File) → OfFile f l start empty
-    go case = record { placed = placed-start; unheaded = λ z. refl; untouched = λ z. refl; reached = omega arith; head-stands = λ z. absurd (z refl); stations-stand = λ j k. absurd (omega arith); tracks-stand = λ j k. absurd (omega arith); tracks-lead = λ from to. any-none _ }
+    go case = record {
+      placed = placed-start;
+      unheaded = λ z. refl;
+      untouched = λ z. refl;
+      reached = omega arith;
+      head-stands = λ z. absurd (z refl);
+      stations-stand = λ j k. absurd (omega arith);
+      tracks-stand = λ j k. absurd (omega arith);
+      tracks-lead = λ from to. any-none _;
+      couples-stand = λ t. any-none _;
+    }
     go book = tt
 
 pub reading-agrees : (f : File) (l : List ℕ) → reading (isBook f) l ≡ readingOf (read f l)

@@ -9,7 +9,13 @@ use Rattle.file_reader.specs.declared.Reading.{Reading}
 use Rattle.file_reader.specs.declared.Reading.the-variants.{Accepted, Refused}
 
 abbrev pub countsOf : Contents → Counts
-countsOf c = record { stations = length (c .stations); tracks = length (c .tracks); trains = length (c .trains); tables = length (c .tables) }
+countsOf c = record {
+  stations = length (c .stations);
+  tracks = length (c .tracks);
+  trains = length (c .trains);
+  tables = length (c .tables);
+  couples = length (c .couples);
+}
 
 abbrev pub readingOf : Result Contents → Reading
 readingOf (refused r) = Refused (r .number) (r .place)

@@ -1,4 +1,4 @@
--- A reading by offset that refuses gives a number, at a place of at most 819 that is within the file: the place of a field is bounded by the counts.
+-- A reading by offset that refuses gives a number, at a place of at most 919 that is within the file: the place of a field is bounded by the counts.
 -- Assumes nothing.
 use mathlib.Core.Path.{_≡_, refl}
 use mathlib.Core.Bool.{Bool, true, false, cond}
@@ -38,19 +38,19 @@ unsound-no book l s k h = go (fieldVerdict book l s) h
     go (suc n) h = let z : suc n ≡ k = cc in omega arith
 
 module _ (book : Bool) (l : List ℕ) where
-  refused : (n : ℕ) (s : Seen) (k i : ℕ) → Within l s → length l < s .at + n → readFrom n book l s ≡ Refused k i → (1 ≤ k) × (i ≤ 819) × (i ≤ length l)
+  refused : (n : ℕ) (s : Seen) (k i : ℕ) → Within l s → length l < s .at + n → readFrom n book l s ≡ Refused k i → (1 ≤ k) × (i ≤ 919) × (i ≤ length l)
   unfolding readFrom
   refused zero s k i w m h = absurd (omega arith)
   refused (suc n) s k i w m h = go (leb (length l) (s .at)) refl (fieldOf book l s) refl h (λ u v p. refused n u k i v p)
     where
       go : (b : Bool) → leb (length l) (s .at) ≡ b → (f : Judged) → fieldOf book l s ≡ f
           → cond b (atEnd book (length l) s) (turn (readFrom n book l) (s .at) f) ≡ Refused k i
-          → ((u : Seen) → Within l u → length l < u .at + n → readFrom n book l u ≡ Refused k i → (1 ≤ k) × (i ≤ 819) × (i ≤ length l)) → (1 ≤ k) × (i ≤ 819) × (i ≤ length l)
+          → ((u : Seen) → Within l u → length l < u .at + n → readFrom n book l u ≡ Refused k i → (1 ≤ k) × (i ≤ 919) × (i ≤ length l)) → (1 ≤ k) × (i ≤ 919) × (i ≤ length l)
       go true e f p h ih = let a = leb-true (length l) (s .at) e in let b = end-refused book (length l) s k i h in (omega arith, omega arith, omega arith)
       go false e (Sound u) p h ih = let q = passes l book s w u p in ih u (q .there) (omega arith) h
       go false e (Unsound j) p h ih = let a : j ≡ k = cc in let b : s .at ≡ i = cc in let c = unsound-no book l s j p in (omega arith, omega arith, omega arith)
 
-  -- the turns never run out, and a place is at most 819 and within the file
-  pub refused-place : (k i : ℕ) → reading book l ≡ Refused k i → (1 ≤ k) × (i ≤ 819) × (i ≤ length l)
+  -- the turns never run out, and a place is at most 919 and within the file
+  pub refused-place : (k i : ℕ) → reading book l ≡ Refused k i → (1 ≤ k) × (i ≤ 919) × (i ≤ length l)
   unfolding reading
   refused-place k i h = refused (suc (length l)) start k i (within-start l) (omega arith) h

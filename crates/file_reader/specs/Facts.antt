@@ -13,4 +13,6 @@ pub record Within (l : List ℕ) (s : Seen) : Type 0 where
   pub few-tracks : s .tracks ≤ 40
   pub few-trains : s .trains ≤ mostTrains
   pub few-tables : s .tables ≤ 8
-  pub near : s .at ≤ 8 * s .heads + 4 * s .stations + 6 * s .tracks + 45 * s .trains + 20 * s .tables
+  pub few-couples : s .couples ≤ 20
+  pub near : s .at ≤ 8 * s .heads + 4 * s .stations + 6 * s .tracks + 45 * s .trains + 20 * s .tables + 5 * s .couples
+  pub behind : 5 * s .couples ≤ s .at

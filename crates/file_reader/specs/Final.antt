@@ -19,8 +19,8 @@ module _ (f : File) (l : List ℕ) where
   stopped : (r : Refusal) → read f l ≡ refused r → reading (isBook f) l ≡ Refused (r .number) (r .place)
   stopped r h = reading-agrees f l ∙ ap readingOf h
 
-  -- a refusal has a number, and its place is at most 819 and within the file
-  pub refused-inside : (r : Refusal) → read f l ≡ refused r → (1 ≤ r .number) × (r .place ≤ 819) × (r .place ≤ length l)
+  -- a refusal has a number, and its place is at most 919 and within the file
+  pub refused-inside : (r : Refusal) → read f l ≡ refused r → (1 ≤ r .number) × (r .place ≤ 919) × (r .place ≤ length l)
   refused-inside r h = refused-place (isBook f) l (r .number) (r .place) (stopped r h)
 
 -- ---- the file of a refusal

@@ -56,7 +56,7 @@ judged-bad (suc a) s k = refl
 -- what a sound frame says
 pub record Framed (size : ℕ) (book : Bool) (s : Seen) (tag n : ℕ) : Type 0 where
   pub low : 1 ≤ tag
-  pub high : tag ≤ 5
+  pub high : tag ≤ 6
   pub placed : outOfPlace book s tag ≡ false
   pub possible : badLength tag n ≡ false
   pub whole : s .at + 3 + n ≤ size
@@ -66,7 +66,7 @@ pub framed : (size : ℕ) (book : Bool) (s : Seen) (tag n : ℕ) → frameVerdic
 unfolding frameVerdict
 framed size book s tag n h =
     let a = skip (eqb tag 0) 1 _ h in
-    let b = skip (ltb 5 tag) 1 _ (a .1) in
+    let b = skip (ltb 6 tag) 1 _ (a .1) in
     let d = skip (outOfPlace book s tag) 2 _ (b .1) in
     let e = skip (badLength tag n) 3 _ (d .1) in
     let f = skip (ltb size (s .at + 3 + n)) 0 _ (e .1) in
@@ -74,7 +74,7 @@ framed size book s tag n h =
     let nz = eqb-false tag 0 (a .0) in
     record {
       low = omega arith;
-      high = ltb-false 5 tag (b .0);
+      high = ltb-false 6 tag (b .0);
       placed = d .0;
       possible = e .0;
       whole = ltb-false size (s .at + 3 + n) (f .0);
@@ -118,6 +118,10 @@ table-length n h =
     let b = past (ltb 17 n) _ (a .1) in
     (ltb-false n 3 (a .0), ltb-false 17 n (b .0))
 
+pub couple-length : (n : ℕ) → badLength 6 n ≡ false → n ≡ 2
+unfolding badLength
+couple-length n h = eqb-true n 2 (not-false _ h)
+
 -- a book has tables only
 pub table-only : (s : Seen) (tag : ℕ) → outOfPlace true s tag ≡ false → tag ≡ 5
 unfolding outOfPlace
@@ -133,33 +137,96 @@ head-first false s h = go (eqb (s .heads) 0) refl h
     go true e h = eqb-true (s .heads) 0 e
     go false e h = absurd (true≢false h)
 
--- a tag is one of five
-pub five : (P : ℕ → Type 0) (tag : ℕ) → 1 ≤ tag → tag ≤ 5 → P 1 → P 2 → P 3 → P 4 → P 5 → P tag
-five P zero h k a b d e f = absurd (omega arith)
-five P (suc zero) h k a b d e f = a
-five P (suc (suc zero)) h k a b d e f = b
-five P (suc (suc (suc zero))) h k a b d e f = d
-five P (suc (suc (suc (suc zero)))) h k a b d e f = e
-five P (suc (suc (suc (suc (suc zero))))) h k a b d e f = f
-five P (suc (suc (suc (suc (suc (suc n)))))) h k a b d e f = absurd (omega arith)
+-- a tag is one of six
+pub six : (P : ℕ → Type 0) (tag : ℕ) → 1 ≤ tag → tag ≤ 6 → P 1 → P 2 → P 3 → P 4 → P 5 → P 6 → P tag
+six P zero h k a b d e f g = absurd (omega arith)
+six P (suc zero) h k a b d e f g = a
+six P (suc (suc zero)) h k a b d e f g = b
+six P (suc (suc (suc zero))) h k a b d e f g = d
+six P (suc (suc (suc (suc zero)))) h k a b d e f g = e
+six P (suc (suc (suc (suc (suc zero))))) h k a b d e f g = f
+six P (suc (suc (suc (suc (suc (suc zero)))))) h k a b d e f g = g
+six P (suc (suc (suc (suc (suc (suc (suc n))))))) h k a b d e f g = absurd (omega arith)
 
 module _ (l : List ℕ) (book : Bool) (s : Seen) (w : Within l s) where
   -- a sound frame keeps the counts
   within-after : (tag n x : ℕ) → Framed (length l) book s tag n → Within l (after s tag (s .at + 3 + n) x)
   unfolding after counted newer tooMany
   within-after tag n x f =
-      five (λ t. outOfPlace book s t ≡ false → badLength t n ≡ false → tooMany s t ≡ false → Within l (after s t (s .at + 3 + n) x))
+      six (λ t. outOfPlace book s t ≡ false → badLength t n ≡ false → tooMany s t ≡ false → Within l (after s t (s .at + 3 + n) x))
       tag (f .low) (f .high)
       (λ p q r. let a = head-first book s p in let b = head-length n q in
-      record { inside = f .whole; one-head = omega arith; few-stations = w .few-stations; few-tracks = w .few-tracks; few-trains = w .few-trains; few-tables = w .few-tables; near = omega arith })
+      record {
+        inside = f .whole;
+        one-head = omega arith;
+        few-stations = w .few-stations;
+        few-tracks = w .few-tracks;
+        few-trains = w .few-trains;
+        few-tables = w .few-tables;
+        few-couples = w .few-couples;
+        near = omega arith;
+        behind = omega (arith, w .behind);
+      })
       (λ p q r. let a = leb-false 24 (s .stations) r in let b = station-length n q in
-      record { inside = f .whole; one-head = w .one-head; few-stations = omega arith; few-tracks = w .few-tracks; few-trains = w .few-trains; few-tables = w .few-tables; near = omega arith })
+      record {
+        inside = f .whole;
+        one-head = w .one-head;
+        few-stations = omega arith;
+        few-tracks = w .few-tracks;
+        few-trains = w .few-trains;
+        few-tables = w .few-tables;
+        few-couples = w .few-couples;
+        near = omega arith;
+        behind = omega (arith, w .behind);
+      })
       (λ p q r. let a = leb-false 40 (s .tracks) r in let b = track-length n q in
-      record { inside = f .whole; one-head = w .one-head; few-stations = w .few-stations; few-tracks = omega arith; few-trains = w .few-trains; few-tables = w .few-tables; near = omega arith })
+      record {
+        inside = f .whole;
+        one-head = w .one-head;
+        few-stations = w .few-stations;
+        few-tracks = omega arith;
+        few-trains = w .few-trains;
+        few-tables = w .few-tables;
+        few-couples = w .few-couples;
+        near = omega arith;
+        behind = omega (arith, w .behind);
+      })
       (λ p q r. let a = leb-false 7 (s .trains) r in let b = train-length n q in
-      record { inside = f .whole; one-head = w .one-head; few-stations = w .few-stations; few-tracks = w .few-tracks; few-trains = omega arith; few-tables = w .few-tables; near = omega arith })
+      record {
+        inside = f .whole;
+        one-head = w .one-head;
+        few-stations = w .few-stations;
+        few-tracks = w .few-tracks;
+        few-trains = omega arith;
+        few-tables = w .few-tables;
+        few-couples = w .few-couples;
+        near = omega arith;
+        behind = omega (arith, w .behind);
+      })
       (λ p q r. let a = leb-false 8 (s .tables) r in let b = table-length n q in
-      record { inside = f .whole; one-head = w .one-head; few-stations = w .few-stations; few-tracks = w .few-tracks; few-trains = w .few-trains; few-tables = omega arith; near = omega arith })
+      record {
+        inside = f .whole;
+        one-head = w .one-head;
+        few-stations = w .few-stations;
+        few-tracks = w .few-tracks;
+        few-trains = w .few-trains;
+        few-tables = omega arith;
+        few-couples = w .few-couples;
+        near = omega arith;
+        behind = omega (arith, w .behind);
+      })
+      (λ p q r. let a = leb-false 20 (s .couples) r in let b = couple-length n q in
+      record {
+        inside = f .whole;
+        one-head = w .one-head;
+        few-stations = w .few-stations;
+        few-tracks = w .few-tracks;
+        few-trains = w .few-trains;
+        few-tables = w .few-tables;
+        few-couples = omega arith;
+        near = omega arith;
+        behind = omega (arith, w .behind);
+      })
       (f .placed) (f .possible) (f .room)
 
   pub within-next : fieldVerdict book l s ≡ 0 → Within l (next l s)
@@ -251,7 +318,17 @@ module _ (l : List ℕ) (book : Bool) (s : Seen) where
   field-good e k p = rw (← e, k, p)
 
 pub within-start : (l : List ℕ) → Within l start
-within-start l = record { inside = omega arith; one-head = omega arith; few-stations = omega arith; few-tracks = omega arith; few-trains = omega arith; few-tables = omega arith; near = omega arith }
+within-start l = record {
+  inside = omega arith;
+  one-head = omega arith;
+  few-stations = omega arith;
+  few-tracks = omega arith;
+  few-trains = omega arith;
+  few-tables = omega arith;
+  few-couples = omega arith;
+  near = omega arith;
+  behind = omega arith;
+}
 
 pub part-length : (l : List ℕ) (a n : ℕ) → a + n ≤ length l → length (take (a + n - a) (drop a l)) ≡ n
 part-length l a n h = let e : a + n - a ≡ n = omega arith in rw e (length-part l a n h)

@@ -3,28 +3,29 @@
 use mathlib.Core.Path.{_≡_, refl, ap, sym, _∙_}
 use mathlib.Core.Bool.{Bool, true, false, cond, _&&_, _||_, or-false}
 use mathlib.Core.List.{List, [], _∷_, _++_, append-nil}
-use Prim.Native.Nat.{ℕ, _+_, _*_, _≤_, _<_}
+use Prim.Native.Nat.{ℕ, _+_, _-_, _*_, _≤_, _<_}
 use native.Mathlib.Numerals.{add-one}
 use native.Mathlib.Omega.{arith}
 use lib.ListN.{length, getD, take, drop, length-append, List·getD-append}
 use lib.Seq.{getD-take, getD-append-seam}
 use lib.Dec.{leb, ltb, eqb}
 use borrow.Author.Tests.{le-leb, leb-true, leb-false, ltb-true, ltb-false, ne-eqb, eqb-true}
-use Rattle.rules.specs.Lists.{one, any}
-use Rattle.rules.specs.Files.{File, Contents, Track, kindOf, byte, headOf, trackOf, trainOf, tableOf, leads, more}
+use Rattle.rules.specs.Lists.{one, any, has}
+use Rattle.rules.specs.Files.{File, Contents, Track, Couple, kindOf, byte, headOf, trackOf, trainOf, tableOf, coupleOf, leads, noTrack, trackAt, coupled, more}
 use Rattle.rules.specs.Files.File.{case, book}
-use Rattle.rules.specs.Files.Kind.{station, track, train, table}
+use Rattle.rules.specs.Files.Kind.{station, track, train, table, couple}
+use Rattle.theory_lists.specs.Each.{each-append}
 use Rattle.theory_lists.specs.Every.{any-append}
 use Rattle.theory_sound.specs.Kinds.{rank-tag, is-tag}
 use Rattle.file_fields.specs.At.{byte-part}
-use Rattle.file_bodies.specs.Bodies.{ends, joined, badLength, pairsVerdict, tableVerdict}
+use Rattle.file_bodies.specs.Bodies.{ends, joined, inCouple, taken, badLength, pairsVerdict, tableVerdict}
 use Rattle.file_bodies.specs.Search.{any-none, any-suc}
 use Rattle.file_reader.specs.declared.Seen.{Seen}
 use Rattle.file_reader.specs.Reading.{outOfPlace, base, bodyVerdict, tagOf, sizeOf, bodyOf, fieldVerdict, counted, newer, after, next}
 use Rattle.file_reader.specs.Facts.{Within}
-use Rattle.file_reader.specs.Laws.{Framed, head-first, five, field-framed, body-sound, head-length, station-length, track-length, table-length}
+use Rattle.file_reader.specs.Laws.{Framed, head-first, six, field-framed, body-sound, head-length, station-length, track-length, table-length, couple-length}
 use Rattle.file_reader.specs.Places.{heads-first, rises, placed-next}
-use Rattle.file_reader.specs.Holds.{isBook, noTrack, InCase, OfFile, Holds}
+use Rattle.file_reader.specs.Holds.{isBook, InCase, OfFile, Holds}
 
 -- ---- counts
 
@@ -39,6 +40,11 @@ any-more t false x l = ap (any t) (append-nil l)
 any-empty : {A : Type 0} (t : A → Bool) (l : List A) → length l ≡ 0 → any t l ≡ false
 any-empty t [] h = refl
 any-empty t (a ∷ l) h = absurd (omega arith)
+
+none-coupled : (cs : List Couple) (t : ℕ) → length cs ≡ 0 → has (coupled cs) t ≡ false
+unfolding coupled
+none-coupled [] t h = refl
+none-coupled (p ∷ cs) t h = absurd (omega arith)
 
 -- one more at the end: the earlier ones stay, and the last is the new one
 snoc : {A : Type 0} {y : A} (l : List A) (x d : A) (j n : ℕ) → length l ≡ n → j < n + 1 → (j < n → y ≡ getD l j d) → (j ≡ n → y ≡ x) → y ≡ getD (l ++ (x ∷ [])) j d
@@ -79,7 +85,10 @@ types-more c tables kind h b v x = rw (h x, ne-eqb (tables + 1) 0 (λ q. omega a
 
 -- ---- a case
 
-module _ (l : List ℕ) (s : Seen) (c : Contents) (i : InCase l s c) (one-head : s .heads ≤ 1) (known : length (c .stations) ≡ s .stations) (many : length (c .tracks) ≡ s .tracks) (tag n x : ℕ) (f : Framed (length l) false s tag n) where
+module _ (l : List ℕ) (s : Seen) (c : Contents) (h : Holds case l s c) (w : Within l s) (tag n x : ℕ) (f : Framed (length l) false s tag n) where
+  abbrev i : InCase l s c
+  i = h .of-file
+
   -- the body of the field
   abbrev b : List ℕ
   b = take n (drop (s .at + 3) l)
@@ -98,10 +107,11 @@ module _ (l : List ℕ) (s : Seen) (c : Contents) (i : InCase l s c) (one-head :
   unfolding after counted
   reached-more =
       let r = i .reached in
-      five (λ t. badLength t n ≡ false → base (grown t) + 6 * grown t .tracks ≤ s .at + 3 + n) tag (f .low) (f .high)
+      six (λ t. badLength t n ≡ false → base (grown t) + 6 * grown t .tracks ≤ s .at + 3 + n) tag (f .low) (f .high)
       (λ q. let e = head-length n q in omega arith)
       (λ q. let e = station-length n q in omega arith)
       (λ q. let e = track-length n q in omega arith)
+      (λ q. omega arith)
       (λ q. omega arith)
       (λ q. omega arith)
       (f .possible)
@@ -109,11 +119,12 @@ module _ (l : List ℕ) (s : Seen) (c : Contents) (i : InCase l s c) (one-head :
   head-more : (grown tag .heads ≡ 0 → ⊥) → headOf (drop 3 l) ≡ more c (s .at) (kindOf tag) b .head
   unfolding after counted more kindOf headOf
   head-more =
-      five (λ t. outOfPlace false s t ≡ false → badLength t n ≡ false → (grown t .heads ≡ 0 → ⊥) → headOf (drop 3 l) ≡ more c (s .at) (kindOf t) b .head) tag (f .low) (f .high)
+      six (λ t. outOfPlace false s t ≡ false → badLength t n ≡ false → (grown t .heads ≡ 0 → ⊥) → headOf (drop 3 l) ≡ more c (s .at) (kindOf t) b .head) tag (f .low) (f .high)
       (λ p q z.
       let e = head-length n q in
       let a : s .at + 3 ≡ 3 = rw (fresh p .0) in
       rw (e, a) (sym (rw (getD-take 5 (drop 3 l) 0 0 (omega arith), getD-take 5 (drop 3 l) 1 0 (omega arith), getD-take 5 (drop 3 l) 2 0 (omega arith), getD-take 5 (drop 3 l) 3 0 (omega arith), getD-take 5 (drop 3 l) 4 0 (omega arith)))))
+      (λ p q z. i .head-stands z)
       (λ p q z. i .head-stands z)
       (λ p q z. i .head-stands z)
       (λ p q z. i .head-stands z)
@@ -123,16 +134,17 @@ module _ (l : List ℕ) (s : Seen) (c : Contents) (i : InCase l s c) (one-head :
   stations-more : (j : ℕ) → j < grown tag .stations → byte l (11 + 4 * j) ≡ getD (more c (s .at) (kindOf tag) b .stations) j 0
   unfolding after counted more kindOf
   stations-more j =
-      five (λ t. outOfPlace false s t ≡ false → badLength t n ≡ false → j < grown t .stations → byte l (11 + 4 * j) ≡ getD (more c (s .at) (kindOf t) b .stations) j 0) tag (f .low) (f .high)
+      six (λ t. outOfPlace false s t ≡ false → badLength t n ≡ false → j < grown t .stations → byte l (11 + 4 * j) ≡ getD (more c (s .at) (kindOf t) b .stations) j 0) tag (f .low) (f .high)
       (λ p q k. old k)
       (λ p q k.
       let r = rises s 2 p (λ e. omega arith) in
       let a = i .placed .so-far (omega arith) in
       let d = i .placed .none-yet r in
-      let h = heads-first s 2 p (λ e. omega arith) in
+      let z = heads-first s 2 p (λ e. omega arith) in
       let e = station-length n q in
-      snoc (c .stations) (byte b 0) 0 j (s .stations) known k (i .stations-stand j)
+      snoc (c .stations) (byte b 0) 0 j (s .stations) (h .stations) k (i .stations-stand j)
       (λ g. sym (byte-part l (s .at + 3) n 0 (11 + 4 * j) (omega arith) (omega arith))))
+      (λ p q k. old k)
       (λ p q k. old k)
       (λ p q k. old k)
       (λ p q k. old k)
@@ -141,20 +153,21 @@ module _ (l : List ℕ) (s : Seen) (c : Contents) (i : InCase l s c) (one-head :
       old : j < s .stations → byte l (11 + 4 * j) ≡ getD (c .stations ++ []) j 0
       old k = i .stations-stand j k ∙ sym (ap (λ (m : List ℕ). getD m j 0) (append-nil (c .stations)))
 
-  tracks-more : (j : ℕ) → j < grown tag .tracks → trackOf (drop (base (grown tag) + 6 * j + 3) l) ≡ getD (more c (s .at) (kindOf tag) b .tracks) j noTrack
-  unfolding after counted more kindOf trackOf
+  tracks-more : (j : ℕ) → j < grown tag .tracks → trackOf (drop (base (grown tag) + 6 * j + 3) l) ≡ trackAt (more c (s .at) (kindOf tag) b) j
+  unfolding after counted more kindOf trackOf trackAt
   tracks-more j =
-      five (λ t. outOfPlace false s t ≡ false → badLength t n ≡ false → j < grown t .tracks → trackOf (drop (base (grown t) + 6 * j + 3) l) ≡ getD (more c (s .at) (kindOf t) b .tracks) j noTrack) tag (f .low) (f .high)
+      six (λ t. outOfPlace false s t ≡ false → badLength t n ≡ false → j < grown t .tracks → trackOf (drop (base (grown t) + 6 * j + 3) l) ≡ trackAt (more c (s .at) (kindOf t) b) j) tag (f .low) (f .high)
       (λ p q k. let z = fresh p .1 in absurd (omega arith))
       (λ p q k. let r = rises s 2 p (λ e. omega arith) in let z = i .placed .none-yet r in absurd (omega arith))
       (λ p q k.
       let r = rises s 3 p (λ e. omega arith) in
       let a = i .placed .so-far r in
       let e = track-length n q in
-      snoc (c .tracks) (trackOf b) noTrack j (s .tracks) many k (i .tracks-stand j)
+      snoc (c .tracks) (trackOf b) noTrack j (s .tracks) (h .tracks) k (i .tracks-stand j)
       (λ g.
       let u : s .at + 3 ≡ base s + 6 * j + 3 = omega arith in
       rw (e, u) (sym (rw (getD-take 3 (drop (base s + 6 * j + 3) l) 0 0 (omega arith), getD-take 3 (drop (base s + 6 * j + 3) l) 1 0 (omega arith), getD-take 3 (drop (base s + 6 * j + 3) l) 2 0 (omega arith))))))
+      (λ p q k. old k)
       (λ p q k. old k)
       (λ p q k. old k)
       (f .placed) (f .possible)
@@ -164,7 +177,7 @@ module _ (l : List ℕ) (s : Seen) (c : Contents) (i : InCase l s c) (one-head :
 
   none-lead : (k : ℕ) (from to : ℕ) → s .tracks ≡ 0 → joined l k (s .tracks) from to ≡ any (leads from to) (c .tracks ++ [])
   unfolding joined
-  none-lead k from to e = rw e (any-none _) ∙ sym (ap (any (leads from to)) (append-nil (c .tracks)) ∙ any-empty (leads from to) (c .tracks) (many ∙ e))
+  none-lead k from to e = rw e (any-none _) ∙ sym (ap (any (leads from to)) (append-nil (c .tracks)) ∙ any-empty (leads from to) (c .tracks) (h .tracks ∙ e))
 
   one-leads : (from to : ℕ) → n ≡ 3 → s .at ≡ base s + 6 * s .tracks → joined l (base s) (s .tracks + 1) from to ≡ any (leads from to) (c .tracks ++ (trackOf b ∷ []))
   unfolding joined ends leads trackOf
@@ -189,12 +202,58 @@ module _ (l : List ℕ) (s : Seen) (c : Contents) (i : InCase l s c) (one-head :
   lead-more : (from to : ℕ) → joined l (base (grown tag)) (grown tag .tracks) from to ≡ any (leads from to) (more c (s .at) (kindOf tag) b .tracks)
   unfolding after counted more kindOf
   lead-more from to =
-      five (λ t. outOfPlace false s t ≡ false → badLength t n ≡ false → joined l (base (grown t)) (grown t .tracks) from to ≡ any (leads from to) (more c (s .at) (kindOf t) b .tracks)) tag (f .low) (f .high)
+      six (λ t. outOfPlace false s t ≡ false → badLength t n ≡ false → joined l (base (grown t)) (grown t .tracks) from to ≡ any (leads from to) (more c (s .at) (kindOf t) b .tracks)) tag (f .low) (f .high)
       (λ p q. none-lead _ from to (fresh p .1))
       (λ p q. let r = rises s 2 p (λ e. omega arith) in none-lead _ from to (i .placed .none-yet r))
       (λ p q. let r = rises s 3 p (λ e. omega arith) in one-leads from to (track-length n q) (i .placed .so-far r))
-      (λ p q. i .tracks-lead from to ∙ sym (ap (any (leads from to)) (append-nil (c .tracks))))
-      (λ p q. i .tracks-lead from to ∙ sym (ap (any (leads from to)) (append-nil (c .tracks))))
+      (λ p q. old)
+      (λ p q. old)
+      (λ p q. old)
+      (f .placed) (f .possible)
+    where
+      old : joined l (base s) (s .tracks) from to ≡ any (leads from to) (c .tracks ++ [])
+      old = i .tracks-lead from to ∙ sym (ap (any (leads from to)) (append-nil (c .tracks)))
+
+  none-taken : (first t : ℕ) → s .couples ≡ 0 → taken l first (s .couples) t ≡ has (coupled (c .couples ++ [])) t
+  unfolding taken
+  none-taken first t e =
+      rw e (any-none _) ∙ sym (ap (λ (m : List Couple). has (coupled m) t) (append-nil (c .couples)) ∙ none-coupled (c .couples) t (h .couples ∙ e))
+
+  one-taken : (t : ℕ) → n ≡ 2 → taken l (s .at + 3 + n - 5 * (s .couples + 1)) (s .couples + 1) t ≡ has (coupled (c .couples ++ (coupleOf b ∷ []))) t
+  unfolding taken inCouple coupled coupleOf
+  one-taken t e =
+      let here : s .at + 3 + n - 5 * (s .couples + 1) ≡ first = omega (arith, w .behind) in
+      let u = byte-part l (s .at + 3) n 0 (first + 5 * s .couples + 3) (omega arith) (omega (arith, w .behind)) in
+      let v = byte-part l (s .at + 3) n 1 (first + 5 * s .couples + 4) (omega arith) (omega (arith, w .behind)) in
+      rw (here, add-one (s .couples))
+      (any-suc (λ k. inCouple l (first + 5 * k) t) (s .couples)
+      ∙ go (eqb t (byte l (first + 5 * s .couples + 3))) (eqb t (byte l (first + 5 * s .couples + 4))) (taken l first (s .couples) t)
+      ∙ (rw (u, v, i .couples-stand t))
+      ∙ sym (any-append (eqb t) (coupled (c .couples)) (byte b 0 ∷ byte b 1 ∷ []))
+      ∙ sym (ap (λ (m : List ℕ). has m t) (each-append (λ p. p .first ∷ p .second ∷ []) (c .couples) (coupleOf b ∷ []))))
+    where
+      first : ℕ
+      first = s .at - 5 * s .couples
+
+      go : (p q y : Bool) → cond (cond p true q) true y ≡ y || (p || (q || false))
+      go true q true = refl
+      go true q false = refl
+      go false true true = refl
+      go false true false = refl
+      go false false true = refl
+      go false false false = refl
+
+  couples-more : (t : ℕ) → taken l (s .at + 3 + n - 5 * grown tag .couples) (grown tag .couples) t ≡ has (coupled (more c (s .at) (kindOf tag) b .couples)) t
+  unfolding after counted more kindOf
+  couples-more t =
+      six (λ k. outOfPlace false s k ≡ false → badLength k n ≡ false
+      → taken l (s .at + 3 + n - 5 * grown k .couples) (grown k .couples) t ≡ has (coupled (more c (s .at) (kindOf k) b .couples)) t) tag (f .low) (f .high)
+      (λ p q. let r = fresh p .2 in none-taken _ t (i .placed .no-couples (omega arith)))
+      (λ p q. let r = rises s 2 p (λ e. omega arith) in none-taken _ t (i .placed .no-couples (omega arith)))
+      (λ p q. let r = rises s 3 p (λ e. omega arith) in none-taken _ t (i .placed .no-couples (omega arith)))
+      (λ p q. let r = rises s 4 p (λ e. omega arith) in none-taken _ t (i .placed .no-couples (omega arith)))
+      (λ p q. let r = rises s 5 p (λ e. omega arith) in none-taken _ t (i .placed .no-couples (omega arith)))
+      (λ p q. one-taken t (couple-length n q))
       (f .placed) (f .possible)
 
 -- ---- one field more
@@ -233,11 +292,12 @@ case-next l s c h w v =
       placed = placed-next l s (i .placed) w v;
       unheaded = λ z. absurd (omega arith);
       untouched = λ z. absurd (omega arith);
-      reached = reached-more l s c i (w .one-head) (h .stations) (h .tracks) (tagOf l s) (sizeOf l s) y d;
-      head-stands = head-more l s c i (w .one-head) (h .stations) (h .tracks) (tagOf l s) (sizeOf l s) y d;
-      stations-stand = stations-more l s c i (w .one-head) (h .stations) (h .tracks) (tagOf l s) (sizeOf l s) y d;
-      tracks-stand = tracks-more l s c i (w .one-head) (h .stations) (h .tracks) (tagOf l s) (sizeOf l s) y d;
-      tracks-lead = lead-more l s c i (w .one-head) (h .stations) (h .tracks) (tagOf l s) (sizeOf l s) y d;
+      reached = reached-more l s c h w (tagOf l s) (sizeOf l s) y d;
+      head-stands = head-more l s c h w (tagOf l s) (sizeOf l s) y d;
+      stations-stand = stations-more l s c h w (tagOf l s) (sizeOf l s) y d;
+      tracks-stand = tracks-more l s c h w (tagOf l s) (sizeOf l s) y d;
+      tracks-lead = lead-more l s c h w (tagOf l s) (sizeOf l s) y d;
+      couples-stand = couples-more l s c h w (tagOf l s) (sizeOf l s) y d;
     }
 
 pub holds-next : (f : File) (l : List ℕ) (s : Seen) (c : Contents) → Holds f l s c → Within l s → fieldVerdict (isBook f) l s ≡ 0
@@ -249,6 +309,7 @@ holds-next f l s c h w v = record {
   tracks = rw (is-tag track (tagOf l s) (omega arith)) (count-more (eqb (tagOf l s) 3) (trackOf (bodyOf l s)) (c .tracks) (s .tracks) (h .tracks));
   trains = rw (is-tag train (tagOf l s) (omega arith)) (count-more (eqb (tagOf l s) 4) (trainOf (s .at) (bodyOf l s)) (c .trains) (s .trains) (h .trains));
   tables = rw (is-tag table (tagOf l s) (omega arith)) (count-more (eqb (tagOf l s) 5) (tableOf (bodyOf l s)) (c .tables) (s .tables) (h .tables));
+  couples = rw (is-tag couple (tagOf l s) (omega arith)) (count-more (eqb (tagOf l s) 6) (coupleOf (bodyOf l s)) (c .couples) (s .couples) (h .couples));
   types = types-next f l s c h w v;
   of-file = go f h v;
 }

@@ -12,15 +12,16 @@ use Rattle.file_bodies.specs.Bodies.{badLength}
 use Rattle.file_reader.specs.declared.Seen.{Seen}
 use Rattle.file_reader.specs.Reading.{outOfPlace, tagOf, sizeOf, fieldVerdict, base, counted, newer, after, next, start}
 use Rattle.file_reader.specs.Facts.{Within}
-use Rattle.file_reader.specs.Laws.{Framed, field-framed, head-first, five, head-length, station-length, track-length}
+use Rattle.file_reader.specs.Laws.{Framed, field-framed, head-first, six, head-length, station-length, track-length}
 
 pub record Placed (s : Seen) : Type 0 where
   pub none-yet : s .tag ≤ 2 → s .tracks ≡ 0
+  pub no-couples : s .tag ≤ 5 → s .couples ≡ 0
   pub so-far : s .tag ≤ 3 → s .at ≡ base s + 6 * s .tracks
   pub headed : s .heads ≡ 0 → s .tag ≡ 0
 
 pub placed-start : Placed start
-placed-start = record { none-yet = λ h. refl; so-far = λ h. refl; headed = λ h. refl }
+placed-start = record { none-yet = λ h. refl; no-couples = λ h. refl; so-far = λ h. refl; headed = λ h. refl }
 
 -- in a case a tag never falls, and one that is no head comes after a head
 pub rises : (s : Seen) (tag : ℕ) → outOfPlace false s tag ≡ false → (tag ≡ 1 → ⊥) → s .tag ≤ tag
@@ -45,16 +46,30 @@ module _ (l : List ℕ) (s : Seen) (p : Placed s) where
   placed-after : (tag n x : ℕ) → Framed (length l) false s tag n → Placed (after s tag (s .at + 3 + n) x)
   unfolding after counted newer
   placed-after tag n x f =
-      five (λ t. outOfPlace false s t ≡ false → badLength t n ≡ false → Placed (after s t (s .at + 3 + n) x))
+      six (λ t. outOfPlace false s t ≡ false → badLength t n ≡ false → Placed (after s t (s .at + 3 + n) x))
       tag (f .low) (f .high)
       (λ m q. let h = head-first false s m in let t = p .headed h in let a = p .none-yet (omega arith) in let b = p .so-far (omega arith) in let c = head-length n q in
-      record { none-yet = λ k. a; so-far = λ k. omega arith; headed = λ k. absurd (omega arith) })
+      record { none-yet = λ k. a; no-couples = λ k. p .no-couples (omega arith); so-far = λ k. omega arith; headed = λ k. absurd (omega arith) })
       (λ m q. let r = rises s 2 m (λ e. omega arith) in let h = heads-first s 2 m (λ e. omega arith) in let a = p .none-yet (omega arith) in let b = p .so-far (omega arith) in let c = station-length n q in
-      record { none-yet = λ k. a; so-far = λ k. omega arith; headed = λ k. absurd (h k) })
+      record { none-yet = λ k. a; no-couples = λ k. p .no-couples (omega arith); so-far = λ k. omega arith; headed = λ k. absurd (h k) })
       (λ m q. let r = rises s 3 m (λ e. omega arith) in let h = heads-first s 3 m (λ e. omega arith) in let b = p .so-far (omega arith) in let c = track-length n q in
-      record { none-yet = λ k. absurd (omega arith); so-far = λ k. omega arith; headed = λ k. absurd (h k) })
-      (λ m q. let h = heads-first s 4 m (λ e. omega arith) in record { none-yet = λ k. absurd (omega arith); so-far = λ k. absurd (omega arith); headed = λ k. absurd (h k) })
-      (λ m q. let h = heads-first s 5 m (λ e. omega arith) in record { none-yet = λ k. absurd (omega arith); so-far = λ k. absurd (omega arith); headed = λ k. absurd (h k) })
+      record { none-yet = λ k. absurd (omega arith); no-couples = λ k. p .no-couples (omega arith); so-far = λ k. omega arith; headed = λ k. absurd (h k) })
+      (λ m q. let r = rises s 4 m (λ e. omega arith) in let h = heads-first s 4 m (λ e. omega arith) in
+      record {
+        none-yet = λ k. absurd (omega arith);
+        no-couples = λ k. p .no-couples (omega arith);
+        so-far = λ k. absurd (omega arith);
+        headed = λ k. absurd (h k);
+      })
+      (λ m q. let r = rises s 5 m (λ e. omega arith) in let h = heads-first s 5 m (λ e. omega arith) in
+      record {
+        none-yet = λ k. absurd (omega arith);
+        no-couples = λ k. p .no-couples (omega arith);
+        so-far = λ k. absurd (omega arith);
+        headed = λ k. absurd (h k);
+      })
+      (λ m q. let h = heads-first s 6 m (λ e. omega arith) in
+      record { none-yet = λ k. absurd (omega arith); no-couples = λ k. absurd (omega arith); so-far = λ k. absurd (omega arith); headed = λ k. absurd (h k) })
       (f .placed) (f .possible)
 
   module _ (w : Within l s) (h : fieldVerdict false l s ≡ 0) where

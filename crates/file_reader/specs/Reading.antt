@@ -7,7 +7,7 @@ use lib.Dec.{leb, ltb, eqb}
 use Rattle.rules.specs.Refusals.{number}
 use Rattle.rules.specs.Refusals.Fault.{overrun, unknownTag, misplaced, wrongLength, wrongCount}
 use Rattle.rules.specs.Files.{word, mostTrains}
-use Rattle.file_bodies.specs.Bodies.{headVerdict, stationVerdict, trackVerdict, trainVerdict, tableVerdict, badLength}
+use Rattle.file_bodies.specs.Bodies.{headVerdict, stationVerdict, trackVerdict, trainVerdict, tableVerdict, coupleVerdict, badLength}
 use Rattle.file_reader.specs.declared.Seen.{Seen}
 use Rattle.file_reader.specs.declared.Counts.{Counts}
 use Rattle.file_reader.specs.declared.Judged.{Judged}
@@ -22,19 +22,20 @@ outOfPlace book s tag =
     (cond (eqb (s .heads) 0) (not (eqb tag 1))
     (cond (eqb tag 1) true (ltb tag (s .tag))))
 
--- 5: one station, track, train or table too many
+-- 5: one station, track, train, table or couple too many
 unfoldable pub tooMany : Seen → ℕ → Bool
 tooMany s tag =
     cond (eqb tag 2) (leb 24 (s .stations))
     (cond (eqb tag 3) (leb 40 (s .tracks))
     (cond (eqb tag 4) (leb mostTrains (s .trains))
-    (cond (eqb tag 5) (leb 8 (s .tables)) false)))
+    (cond (eqb tag 5) (leb 8 (s .tables))
+    (cond (eqb tag 6) (leb 20 (s .couples)) false))))
 
 -- 2, 3, 4, 1 and 5, in this order, of a field with this tag and n bytes of body in a file of `size` bytes
 unfoldable pub frameVerdict : ℕ → Bool → Seen → ℕ → ℕ → ℕ
 frameVerdict size book s tag n =
     cond (eqb tag 0) (number unknownTag)
-    (cond (ltb 5 tag) (number unknownTag)
+    (cond (ltb 6 tag) (number unknownTag)
     (cond (outOfPlace book s tag) (number misplaced)
     (cond (badLength tag n) (number wrongLength)
     (cond (ltb size (s .at + 3 + n)) (number overrun)
@@ -44,14 +45,15 @@ frameVerdict size book s tag n =
 abbrev pub base : Seen → ℕ
 base s = 8 * s .heads + 4 * s .stations
 
--- 6 to 10, by tag, of the body b after the bytes earlier
+-- 6 to 10 and 18, by tag, of the body b after the bytes earlier
 unfoldable pub bodyVerdict : List ℕ → Seen → ℕ → List ℕ → ℕ
 bodyVerdict earlier s tag b =
     cond (eqb tag 1) (headVerdict b)
     (cond (eqb tag 2) (stationVerdict b)
     (cond (eqb tag 3) (trackVerdict earlier (base s) (s .tracks) (s .stations) b)
     (cond (eqb tag 4) (trainVerdict earlier (base s) (s .tracks) (s .stations) b)
-    (tableVerdict (s .tables) (s .kind) b))))
+    (cond (eqb tag 6) (coupleVerdict earlier (base s) (s .tracks) (s .couples) b)
+    (tableVerdict (s .tables) (s .kind) b)))))
 
 -- the first of two numbers that is not 0
 abbrev pub orElse : ℕ → ℕ → ℕ
@@ -91,6 +93,7 @@ after s tag end b = record {
   tracks = counted tag 3 (s .tracks);
   trains = counted tag 4 (s .trains);
   tables = counted tag 5 (s .tables);
+  couples = counted tag 6 (s .couples);
   kind = newer tag b (s .kind);
 }
 
@@ -105,7 +108,7 @@ unfoldable pub fieldOf : Bool → List ℕ → Seen → Judged
 fieldOf book l s = judged (fieldVerdict book l s) (next l s)
 
 abbrev pub countsSeen : Seen → Counts
-countsSeen s = record { stations = s .stations; tracks = s .tracks; trains = s .trains; tables = s .tables }
+countsSeen s = record { stations = s .stations; tracks = s .tracks; trains = s .trains; tables = s .tables; couples = s .couples }
 
 -- the end of a file: 5 for a case with no head, station or train
 unfoldable pub atEnd : Bool → ℕ → Seen → Reading
@@ -134,7 +137,7 @@ readFrom (suc n) book l s =
     (turn (readFrom n book l) (s .at) (fieldOf book l s))
 
 abbrev pub start : Seen
-start = record { at = 0; tag = 0; heads = 0; stations = 0; tracks = 0; trains = 0; tables = 0; kind = 0 }
+start = record { at = 0; tag = 0; heads = 0; stations = 0; tracks = 0; trains = 0; tables = 0; couples = 0; kind = 0 }
 
 -- a file, from its first byte: a field has at least three bytes, so there are never more fields than bytes
 unfoldable pub reading : Bool → List ℕ → Reading

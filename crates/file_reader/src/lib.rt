@@ -20,6 +20,7 @@ pub struct Seen {
     pub tracks: usize,
     pub trains: usize,
     pub tables: usize,
+    pub couples: usize,
     pub kind: usize,
 }
 
@@ -29,6 +30,7 @@ pub struct Counts {
     pub tracks: usize,
     pub trains: usize,
     pub tables: usize,
+    pub couples: usize,
 }
 
 // A field that is sound, with what has been seen after it, or the number of what is wrong with it.
@@ -59,7 +61,7 @@ fn out_of_place(book: bool, s: Seen, tag: usize) -> bool
     tag < s.tag
 }
 
-// 5: one station, track, train or table too many.
+// 5: one station, track, train, table or couple too many.
 fn one_too_many(s: Seen, tag: usize) -> bool
     ensures { λ r. ⌜ r ≡ tooMany s tag ⌝ }
 {
@@ -74,6 +76,9 @@ fn one_too_many(s: Seen, tag: usize) -> bool
     }
     if tag == limits::TABLE {
         return limits::MOST_TABLES <= s.tables;
+    }
+    if tag == limits::COUPLE {
+        return limits::MOST_COUPLES <= s.couples;
     }
     false
 }
@@ -104,12 +109,14 @@ fn frame_verdict(size: usize, book: bool, s: Seen, tag: usize, n: usize) -> usiz
     0
 }
 
-// 6 to 10, by tag, of the body b after the earlier bytes of the file.
+// 6 to 10 and 18, by tag, of the body b after the earlier bytes of the file.
 fn body_verdict(earlier: &[u8], s: Seen, tag: usize, b: &[u8]) -> usize
     requires { ⌜ (s .heads ≤ 1) × (s .stations ≤ 24) × (s .tracks ≤ 40) ⌝ }
-    requires { ⌜ (1 ≤ tag) × (tag ≤ 5) × (badLength tag (length (now b)) ≡ false) ⌝ }
+    requires { ⌜ (s .couples ≤ 20) × (5 * s .couples ≤ length (now earlier)) × (length (now earlier) ≤ 4096) ⌝ }
+    requires { ⌜ (1 ≤ tag) × (tag ≤ 6) × (badLength tag (length (now b)) ≡ false) ⌝ }
     ensures { λ r. ⌜ r ≡ bodyVerdict (now (earlier .entry)) s tag (now (b .entry)) ⌝ }
 {
+    let base = 8 * s.heads + 4 * s.stations;
     if tag == limits::HEAD {
         return file_bodies::head_verdict(b);
     }
@@ -117,22 +124,13 @@ fn body_verdict(earlier: &[u8], s: Seen, tag: usize, b: &[u8]) -> usize
         return file_bodies::station_verdict(b);
     }
     if tag == limits::TRACK {
-        return file_bodies::track_verdict(
-            earlier,
-            8 * s.heads + 4 * s.stations,
-            s.tracks,
-            s.stations,
-            b,
-        );
+        return file_bodies::track_verdict(earlier, base, s.tracks, s.stations, b);
     }
     if tag == limits::TRAIN {
-        return file_bodies::train_verdict(
-            earlier,
-            8 * s.heads + 4 * s.stations,
-            s.tracks,
-            s.stations,
-            b,
-        );
+        return file_bodies::train_verdict(earlier, base, s.tracks, s.stations, b);
+    }
+    if tag == limits::COUPLE {
+        return file_bodies::couple_verdict(earlier, base, s.tracks, s.couples, b);
     }
     file_bodies::table_verdict(s.tables, s.kind, b)
 }
@@ -160,7 +158,7 @@ fn newest(tag: usize, b: usize, kind: usize) -> usize
 
 // What has been seen after a field of this tag that ends before end, and whose body starts with b.
 fn grown(s: Seen, tag: usize, end: usize, b: usize) -> Seen
-    requires { ⌜ (s .heads ≤ 1) × (s .stations ≤ 24) × (s .tracks ≤ 40) × (s .trains ≤ 7) × (s .tables ≤ 8) ⌝ }
+    requires { ⌜ (s .heads ≤ 1) × (s .stations ≤ 24) × (s .tracks ≤ 40) × (s .trains ≤ 7) × (s .tables ≤ 8) × (s .couples ≤ 20) ⌝ }
     ensures { λ r. ⌜ r ≡ after s tag end b ⌝ }
 {
     Seen {
@@ -171,6 +169,7 @@ fn grown(s: Seen, tag: usize, end: usize, b: usize) -> Seen
         tracks: one_more(tag, limits::TRACK, s.tracks),
         trains: one_more(tag, limits::TRAIN, s.trains),
         tables: one_more(tag, limits::TABLE, s.tables),
+        couples: one_more(tag, limits::COUPLE, s.couples),
         kind: newest(tag, b, s.kind),
     }
 }
@@ -237,6 +236,7 @@ fn held(s: Seen) -> Counts
         tracks: s.tracks,
         trains: s.trains,
         tables: s.tables,
+        couples: s.couples,
     }
 }
 
@@ -271,6 +271,7 @@ fn read(file: &[u8], book: bool) -> Reading
         tracks: 0,
         trains: 0,
         tables: 0,
+        couples: 0,
         kind: 0,
     };
     while s.at < file.len() {

@@ -11,8 +11,8 @@ use Rattle.rules.specs.Files.{Track, Stop, byte, word, leads, lastOf}
 use Rattle.rules.specs.Turns.{trackFrom}
 use Rattle.rules.specs.Single.{firstArrival}
 use lib.Dec.{eqb}
-use borrow.Author.Tests.{ne-eqb}
-use Rattle.file_tables.specs.Model.{rows, trackIn, tracksFrom, stopIn, stopsFrom, stopsAt, trainIn, trackCode, walkNext, walkStay, firstStation, nextRow, stayRow, stopWord, nextPart, stayPart, wayPart}
+use borrow.Author.Tests.{eq-eqb, ne-eqb}
+use Rattle.file_tables.specs.Model.{rows, partnerFrom, trackIn, tracksFrom, stopIn, stopsFrom, stopsAt, trainIn, trackCode, walkNext, walkStay, firstStation, nextRow, stayRow, stopWord, nextPart, stayPart, wayPart}
 use Rattle.file_fields.specs.Fields.{past}
 use Rattle.file_tables.specs.Fills.{pad-length, length-rows}
 
@@ -31,6 +31,30 @@ module _ (cs : List ℕ) (from to : ℕ) where
 
   pub track-end : (r j at : ℕ) → r ≤ j → trackFrom from to (tracksFrom cs (r - j) at) ≡ 0
   track-end r j at h = let e : r - j ≡ 0 = omega arith in rw e
+
+-- ---- the partner of a track
+
+module _ (cs : List ℕ) (j : ℕ) where
+  pub partner-start : (q o : ℕ) → partnerFrom cs j (q - 0) o ≡ partnerFrom cs j q o
+  partner-start q o = let e : q - 0 ≡ q = omega arith in rw e
+
+  module _ (q k at : ℕ) (h : k < q) where
+    pub partner-first : j ≡ byte cs (at + 3) → partnerFrom cs j (q - k) at ≡ 24 + byte cs (at + 4)
+    partner-first f = let e : q - k ≡ suc (q - (k + 1)) = omega arith in rw (e, eq-eqb j (byte cs (at + 3)) f)
+
+    module _ (n : j ≡ byte cs (at + 3) → ⊥) where
+      pub partner-second : j ≡ byte cs (at + 4) → partnerFrom cs j (q - k) at ≡ 24 + byte cs (at + 3)
+      partner-second f =
+          let e : q - k ≡ suc (q - (k + 1)) = omega arith in
+          rw (e, ne-eqb j (byte cs (at + 3)) n, eq-eqb j (byte cs (at + 4)) f)
+
+      pub partner-next : (j ≡ byte cs (at + 4) → ⊥) → partnerFrom cs j (q - k) at ≡ partnerFrom cs j (q - (k + 1)) (at + 5)
+      partner-next m =
+          let e : q - k ≡ suc (q - (k + 1)) = omega arith in
+          rw (e, ne-eqb j (byte cs (at + 3)) n, ne-eqb j (byte cs (at + 4)) m)
+
+  pub partner-end : (q k at : ℕ) → q ≤ k → partnerFrom cs j (q - k) at ≡ 0
+  partner-end q k at h = let e : q - k ≡ 0 = omega arith in rw e
 
 -- ---- a train's stops
 

@@ -13,9 +13,9 @@ use Rattle.rules.specs.Lists.{has}
 use Rattle.rules.specs.Refusals.{Rule, Refusal, number, firstOf, verdict}
 use Rattle.rules.specs.Refusals.Fault.{overrun}
 use Rattle.rules.specs.Refusals.Result.{refused, answer}
-use Rattle.rules.specs.Files.{File, fileNumber, spot, Contents, Kind, kindOf, byte, word, kind, size, body, known, inPlace, lengths, most, howMany, headRules, stationRules, trackRules, trainRules, tableRules, bodyRules, fieldRules, more, endRules, readField, readFields, empty, read}
+use Rattle.rules.specs.Files.{File, fileNumber, spot, Contents, Kind, kindOf, byte, word, kind, size, body, known, inPlace, lengths, most, howMany, headRules, stationRules, trackRules, trainRules, tableRules, coupleRules, bodyRules, fieldRules, more, endRules, readField, readFields, empty, read}
 use Rattle.rules.specs.Files.File.{case, book}
-use Rattle.rules.specs.Files.Kind.{head, station, track, train, table, noField}
+use Rattle.rules.specs.Files.Kind.{head, station, track, train, table, couple, noField}
 use Rattle.theory_sound.specs.Verdicts.{refused-answer, answer-answer, unless-answer, onward-answer, unless-refused, onward-refused, field-accepted}
 use Rattle.theory_sound.specs.Verdicts.{Field as Accepted}
 use Rattle.rules.specs.Viewer.{View, refusalOf, viewed, nextPlace, placeFrom}
@@ -73,13 +73,14 @@ verdict-no-one (r ∷ rs) h v = go (ltb 1 (number (r .fault))) (r .broken) refl 
     go false b e h v ih = false≢true h
 
 body-no-one : (c : Contents) (at : ℕ) (k : Kind) (b : List ℕ) → noOne (bodyRules c at k b) ≡ true
-unfolding bodyRules headRules stationRules trackRules trainRules tableRules
+unfolding bodyRules headRules stationRules trackRules trainRules tableRules coupleRules
 body-no-one c at noField b = refl
 body-no-one c at head b = refl
 body-no-one c at station b = refl
 body-no-one c at track b = refl
 body-no-one c at train b = refl
 body-no-one c at table b = refl
+body-no-one c at couple b = refl
 
 end-no-one : (f : File) (c : Contents) → noOne (endRules f c) ≡ true
 unfolding endRules

@@ -1,11 +1,10 @@
--- `file_plan::all_parts` meets its contract: three parts fill the list. Assumes nothing.
-use native.Mathlib.Omega.{arith}
+-- `file_plan::all_parts` meets its contract: four parts fill the list. Assumes nothing.
 use borrow.Author.Needs.{needs}
 use mathlib.Core.Path.{refl, _∙_, ap, ap₂}
 use mathlib.Core.List.{_++_}
 use lib.ListN.{length}
 use Rattle.file_tables.specs.Model.{tracksFrom, trackPlace, trainPlace}
-use Rattle.file_tables.specs.Fills.{front-part-length, capacity-part-length, three-parts}
+use Rattle.file_tables.specs.Fills.{front-part-length, capacity-part-length, partner-part-length, four-parts}
 use Rattle.file_tables.specs.Walks.{way-part-length}
 use Rattle.file_plan.proofs.all_parts.Statement.{statement}
 use Rattle.file_plan.proofs.all_parts.Tie as tie
@@ -58,23 +57,44 @@ part-way-part-end c = search needs
 way-part-requires : tie.Need-way-part-requires
 way-part-requires c κs = search needs
 
+sub-partners : tie.Need-sub-partners
+sub-partners c = search needs
+
+part-partners-start : tie.Need-part-partners-start
+part-partners-start c = search needs
+
+part-partners-end : tie.Need-part-partners-end
+part-partners-end c = search needs
+
+partners-requires : tie.Need-partners-requires
+partners-requires c κs = search needs
+
 same-length : tie.Need-same-length
 same-length c = search needs
 
 returns : tie.Need-returns
 returns c =
-    let g = c .before .before .before .before .before .before .before .before .before .before .before .before .before .before .before .args in
+    let start = c .before .before .before .before .before .before .before .before .before .before .before .before .before .before .before .before .before .before .before .before .before in
+    let g = start .args in
+    let few = start .pre in
     let cs = g .case .now in
     let bk = g .book .now in
-    let o = trackPlace (g .s) in
-    let t = trainPlace (g .s) (g .r) in
-    three-parts (g .out .now) (c .before .before .before .before .before .before .before .before .before .before .front-part .last .1 .1 .1 .1 .0) (c .before .before .before .before .before .before .capacities .last .1 .1 .1 .0) 176 64
-    (ap length (c .before .before .before .before .before .before .before .before .before .before .front-part .ensures) ∙ front-part-length cs bk (g .n) t (omega arith))
-    (ap length (c .before .before .before .before .before .before .capacities .ensures) ∙ capacity-part-length cs (g .s) (g .r))
-    (c .before .before .way-part .last .1 .1 .1 .1 .1 .0) 240 2048 refl
-    (ap length (c .before .before .way-part .ensures) ∙ way-part-length cs (tracksFrom cs (g .r) o) (g .n) t (omega arith))
-    (omega arith)
-    ∙ ap₂ _++_ (c .before .before .before .before .before .before .before .before .before .before .front-part .ensures) (ap₂ _++_ (c .before .before .before .before .before .before .capacities .ensures) (c .before .before .way-part .ensures))
+    let z = g .z in
+    let o = trackPlace (z .stations) in
+    let t = trainPlace (z .stations) (z .tracks) in
+    let front = c .before .before .before .before .before .before .before .before .before .before .before .before .before .before .front-part in
+    let capacities = c .before .before .before .before .before .before .before .before .before .before .capacities in
+    let ways = c .before .before .before .before .before .before .way-part in
+    let partners = c .before .before .partners in
+    four-parts (g .out .now) (front .last .1 .1 .1 .1 .0) (capacities .last .1 .1 .1 .0) 176 64
+    (ap length (front .ensures) ∙ front-part-length cs bk (z .trains) t (few .2))
+    (ap length (capacities .ensures) ∙ capacity-part-length cs (z .stations) (z .tracks))
+    (ways .last .1 .1 .1 .1 .1 .0) 240 2048 refl
+    (ap length (ways .ensures) ∙ way-part-length cs (tracksFrom cs (z .tracks) o) (z .trains) t (few .2))
+    (partners .last .1 .1 .0) 2288 64 refl
+    (ap length (partners .ensures) ∙ partner-part-length cs (z .couples))
+    (few .4)
+    ∙ ap₂ _++_ (front .ensures) (ap₂ _++_ (capacities .ensures) (ap₂ _++_ (ways .ensures) (partners .ensures)))
 
 pub all-parts-spec : {M : Type 1} → statement M
 all-parts-spec =
@@ -96,5 +116,9 @@ all-parts-spec =
     part-way-part-start
     part-way-part-end
     way-part-requires
+    sub-partners
+    part-partners-start
+    part-partners-end
+    partners-requires
     same-length
     returns)

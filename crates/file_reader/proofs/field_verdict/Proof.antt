@@ -56,7 +56,9 @@ body-verdict-requires : tie.Need-body-verdict-requires
 body-verdict-requires c κs =
     let st = c .before .before .before .before .before .before .before .before in
     let f = framed _ _ _ _ _ (sym (c .before .before .before .frame-verdict .ensures) ∙ c .before .before .if2 .left) in
-    ((omega arith, omega arith, omega arith), (omega arith, omega arith, ap (badLength (c .before .before .before .before .before .byte .result)) (part-length (now (st .args .file)) (st .args .s .at + 3) (c .before .before .before .before .word .result) (f .whole)) ∙ f .possible))
+    let before = length-take-le (st .args .s .at) (now (st .args .file)) (st .pre .inside) in
+    let possible = ap (badLength (c .before .before .before .before .before .byte .result)) (part-length (now (st .args .file)) (st .args .s .at + 3) (c .before .before .before .before .word .result) (f .whole)) ∙ f .possible in
+    ((omega arith, omega arith, omega arith), ((omega arith, omega (arith, before, st .pre .behind), omega (arith, before, st .pre .near)), (omega arith, omega arith, possible)))
 
 returns-3 : tie.Need-returns-3
 returns-3 c =

@@ -19,12 +19,23 @@ one-more-requires-4 c κs = search needs
 one-more-requires-5 : tie.Need-one-more-requires-5
 one-more-requires-5 c κs = search needs
 
+one-more-requires-6 : tie.Need-one-more-requires-6
+one-more-requires-6 c κs = search needs
+
 newest-requires : tie.Need-newest-requires
 newest-requires c κs = search needs
 
 returns : tie.Need-returns
 unfolding after
-returns c = rw (c .before .before .before .before .before .one-more .ensures, c .before .before .before .before .one-more2 .ensures, c .before .before .before .one-more3 .ensures, c .before .before .one-more4 .ensures, c .before .one-more5 .ensures, c .newest .ensures)
+returns c = rw (
+  c .before .before .before .before .before .before .one-more .ensures,
+  c .before .before .before .before .before .one-more2 .ensures,
+  c .before .before .before .before .one-more3 .ensures,
+  c .before .before .before .one-more4 .ensures,
+  c .before .before .one-more5 .ensures,
+  c .before .one-more6 .ensures,
+  c .newest .ensures,
+)
 
 pub grown-spec : {M : Type 1} → statement M
 grown-spec =
@@ -35,5 +46,6 @@ grown-spec =
     one-more-requires-3
     one-more-requires-4
     one-more-requires-5
+    one-more-requires-6
     newest-requires
     returns)

@@ -18,11 +18,32 @@ returns-3 c = simp (ne-eqb _ _ (c .before .before .before .if1 .left), ne-eqb _ 
 
 returns-4 : tie.Need-returns-4
 unfolding tooMany
-returns-4 c = simp (ne-eqb _ _ (c .before .before .before .before .if1 .left), ne-eqb _ _ (c .before .before .before .if2 .left), ne-eqb _ _ (c .before .before .if3 .left), eq-eqb _ _ (c .before .if4 .taken))
+returns-4 c = simp (
+  ne-eqb _ _ (c .before .before .before .before .if1 .left),
+  ne-eqb _ _ (c .before .before .before .if2 .left),
+  ne-eqb _ _ (c .before .before .if3 .left),
+  eq-eqb _ _ (c .before .if4 .taken),
+)
 
 returns-5 : tie.Need-returns-5
 unfolding tooMany
-returns-5 c = simp (ne-eqb _ _ (c .before .before .before .if1 .left), ne-eqb _ _ (c .before .before .if2 .left), ne-eqb _ _ (c .before .if3 .left), ne-eqb _ _ (c .if4 .left))
+returns-5 c = simp (
+  ne-eqb _ _ (c .before .before .before .before .before .if1 .left),
+  ne-eqb _ _ (c .before .before .before .before .if2 .left),
+  ne-eqb _ _ (c .before .before .before .if3 .left),
+  ne-eqb _ _ (c .before .before .if4 .left),
+  eq-eqb _ _ (c .before .if5 .taken),
+)
+
+returns-6 : tie.Need-returns-6
+unfolding tooMany
+returns-6 c = simp (
+  ne-eqb _ _ (c .before .before .before .before .if1 .left),
+  ne-eqb _ _ (c .before .before .before .if2 .left),
+  ne-eqb _ _ (c .before .before .if3 .left),
+  ne-eqb _ _ (c .before .if4 .left),
+  ne-eqb _ _ (c .if5 .left),
+)
 
 pub one-too-many-spec : {M : Type 1} → statement M
-one-too-many-spec = tie.close (tie.spec returns returns-2 returns-3 returns-4 returns-5)
+one-too-many-spec = tie.close (tie.spec returns returns-2 returns-3 returns-4 returns-5 returns-6)
