@@ -1,6 +1,6 @@
 -- The single run on words, as the program holds it, for a table of words T: the code of train k's place stands at k, its due minute at 8 + k, the minute
 -- after its arrival at 16 + k (0: none), and at 24 + e · 8 + k the minute after the end of its block on element e (0: none). Assumes nothing: these are definitions.
-use mathlib.Core.Bool.{Bool, _||_, cond}
+use mathlib.Core.Bool.{Bool, _&&_, _||_, cond}
 use mathlib.Core.List.{List}
 use Prim.Native.Nat.{ℕ, zero, suc, _+_, _-_, _*_, _<_}
 use lib.ListN.{getD, set, replicate}
@@ -37,9 +37,17 @@ holding t e w k = tick (eqb (getD w k 0) e) + tick (ltb t (getD w (24 + e * 8 + 
 unfoldable pub crowd : List ℕ → ℕ → ℕ → List ℕ → ℕ
 crowd T t e w = sum (holding t e w) (below (trainsIn T))
 
--- whether e, asked for in minute t, lets one more in; the way out has no limit
+-- the code of the partner of e, 0 where it has none
+abbrev pub partnerOf : List ℕ → ℕ → ℕ
+partnerOf T e = getD T (2288 + e) 0
+
+-- how many trains stand on or block the partner of e
+unfoldable pub across : List ℕ → ℕ → ℕ → List ℕ → ℕ
+across T t e w = cond (eqb (partnerOf T e) 0) 0 (crowd T t (partnerOf T e) w)
+
+-- whether e, asked for in minute t, lets one more in: it has room, and its partner holds nobody; the way out has no limit
 unfoldable pub lets : List ℕ → ℕ → ℕ → List ℕ → Bool
-lets T t e w = eqb e 64 || ltb (crowd T t e w) (getD T (176 + e) 0)
+lets T t e w = eqb e 64 || (ltb (crowd T t e w) (getD T (176 + e) 0) && eqb (across T t e w) 0)
 
 -- ---- train k enters e in minute t
 
@@ -87,12 +95,19 @@ later a b = cond (ltb a b) b a
 unfoldable pub freedIn : List ℕ → ℕ → ℕ → List ℕ → ℕ → ℕ
 freedIn T t e w b = fold (λ k c. nearer (t + 1) (getD w (24 + e * 8 + k) 0) c) (below (trainsIn T)) b
 
--- before this minute train k is not let in from t on, if it comes before b: when it becomes due, or, if it is held, when a block on what it asks for has ended
+-- the same of a block on e or on its partner: until then, who is held at e stays so
+unfoldable pub reopenedIn : List ℕ → ℕ → ℕ → List ℕ → ℕ → ℕ
+reopenedIn T t e w b =
+    let own = freedIn T t e w b in
+    cond (eqb (partnerOf T e) 0) own (freedIn T t (partnerOf T e) w own)
+
+-- before this minute train k is not let in from t on, if it comes before b: when it becomes due, or, if it is held, when a block on what it asks for,
+-- or on that one's partner, has ended
 unfoldable pub readyIn : List ℕ → ℕ → List ℕ → ℕ → ℕ → ℕ
 readyIn T t w k b =
     let from = later t (getD w (8 + k) 0) in
     let e = wanted T from w k in
-    cond (ltb from b) (cond (ltb e 65) (cond (ltb t from) from (cond (lets T from e w) from (freedIn T from e w b))) b) b
+    cond (ltb from b) (cond (ltb e 65) (cond (ltb t from) from (cond (lets T from e w) from (reopenedIn T from e w b))) b) b
 
 -- the first of these minutes, 65,536 for none: until then nobody moves
 unfoldable pub nextIn : List ℕ → ℕ → List ℕ → ℕ

@@ -1,7 +1,8 @@
 // A minute of the single run of one choice of delays on words: where each train is, when it is due, when it arrived, and what it blocks.
 ghost use mathlib.Core.Path.{_≡_};
 ghost use Prim.Native.Nat.{_≤_, _<_};
-ghost use Rattle.moving.specs.Words.{Small, wanted, holding, crowd, lets, leftIn, stoodIn, arrivedIn, enteredIn, servedIn, elementIn, minuteIn, nearestIn};
+ghost use Rattle.moving.specs.Words.{Small, wanted, holding, crowd, across, lets};
+ghost use Rattle.moving.specs.Words.{leftIn, stoodIn, arrivedIn, enteredIn, servedIn, elementIn, minuteIn, nearestIn};
 
 // The code of the element that train k asks for in minute t, 127 for none.
 pub fn wanted(tables: &[u64], run: &[u64], t: u64, k: u64) -> u64
@@ -20,7 +21,7 @@ pub fn wanted(tables: &[u64], run: &[u64], t: u64, k: u64) -> u64
 
 // Whether train k stands on e, and whether it blocks e in minute t.
 fn holding(run: &[u64], t: u64, e: u64, k: u64) -> u64
-    requires { ⌜ (k < 4294967296) × (e < 65) ⌝ }
+    requires { ⌜ (k < 4294967296) × (e < 4294967296) ⌝ }
     ensures { λ r. ⌜ (r ≡ holding t e (now (run .entry)) k) × (r ≤ 2) ⌝ }
 {
     let end = words::at(run, 24 + e * 8 + k);
@@ -38,7 +39,7 @@ fn holding(run: &[u64], t: u64, e: u64, k: u64) -> u64
 
 // How many trains stand on or block e in minute t.
 fn crowd(tables: &[u64], run: &[u64], t: u64, e: u64) -> u64
-    requires { ⌜ Small (now tables) × (e < 65) ⌝ }
+    requires { ⌜ Small (now tables) × (e < 4294967296) ⌝ }
     ensures { λ r. ⌜ r ≡ crowd (now (tables .entry)) t e (now (run .entry)) ⌝ }
 {
     let n = words::at(tables, 0);
@@ -51,7 +52,19 @@ fn crowd(tables: &[u64], run: &[u64], t: u64, e: u64) -> u64
     count
 }
 
-// Whether e lets one more train in; the way out has no limit.
+// How many trains stand on or block the partner of e in minute t; 0 where e has none.
+fn across(tables: &[u64], run: &[u64], t: u64, e: u64) -> u64
+    requires { ⌜ Small (now tables) × (e < 65) ⌝ }
+    ensures { λ r. ⌜ r ≡ across (now (tables .entry)) t e (now (run .entry)) ⌝ }
+{
+    let partner = words::at(tables, 2288 + e);
+    if partner == 0 {
+        return 0;
+    }
+    crowd(tables, run, t, partner)
+}
+
+// Whether e lets one more train in, which it does not while its partner holds one; the way out has no limit.
 pub fn lets(tables: &[u64], run: &[u64], t: u64, e: u64) -> bool
     requires { ⌜ Small (now tables) × (e < 65) ⌝ }
     ensures { λ r. ⌜ r ≡ lets (now (tables .entry)) t e (now (run .entry)) ⌝ }
@@ -59,7 +72,10 @@ pub fn lets(tables: &[u64], run: &[u64], t: u64, e: u64) -> bool
     if e == 64 {
         return true;
     }
-    crowd(tables, run, t, e) < words::at(tables, 176 + e)
+    if crowd(tables, run, t, e) < words::at(tables, 176 + e) {
+        return across(tables, run, t, e) == 0;
+    }
+    false
 }
 
 // Train k blocks the element that it leaves, through the safety time; nothing outside is blocked.

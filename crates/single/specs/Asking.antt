@@ -1,36 +1,28 @@
--- The tests of the run on words are the tests of 01: what a train asks for, whether it is let in, and whether it comes to its last station.
+-- Two tests of the run on words are tests of 01: what a train asks for, and whether it comes to its last station.
 -- The words show the marks, and the tables hold what the case says of them. Assumes nothing.
-use mathlib.Core.Path.{_≡_, refl, sym, ap, ap₂, _∙_}
-use mathlib.Core.Bool.{Bool, true, false, _&&_, _||_, cond, and-false}
+use mathlib.Core.Path.{_≡_, refl, sym, ap, _∙_}
+use mathlib.Core.Bool.{Bool, true, false, _&&_, cond, and-false}
 use mathlib.Core.List.{List}
 use Prim.Native.Nat.{ℕ, _+_, _*_, _≤_, _<_}
-use native.Mathlib.Nat.{mul-one, mul-zero}
 use native.Mathlib.Omega.{arith}
 use lib.ListN.{length, getD}
-use lib.Dec.{leb, ltb, eqb}
-use borrow.Author.Tests.{eqb-false, ne-eqb, lt-ltb}
-use Rattle.rules.specs.Lists.{tick, sum, count, below}
+use lib.Dec.{leb, eqb}
+use borrow.Author.Tests.{ne-eqb, lt-ltb}
 use Rattle.rules.specs.Files.{Case}
-use Rattle.rules.specs.Turns.{same, Mark, absent, trainAt, lastStation, capacity, ahead, headIs, asks, State}
-use Rattle.rules.specs.Turns.Place.{station, gone}
+use Rattle.rules.specs.Turns.{same, Mark, absent, trainAt, lastStation, ahead, headIs, asks, State}
 use Rattle.theory_sound.specs.Facts.{SoundTrain, Sound}
 use Rattle.theory_lists.specs.Tests.{eqb-turn}
 use Rattle.theory_lists.specs.Every.{every-at}
 use Rattle.theory_sound.specs.Steps.{every-last}
 use Rattle.theory_sound.specs.Trains.{Known}
-use Rattle.theory_lists.specs.Sums.{sum-plus, sum-zero}
-use Rattle.theory_lists.specs.Below.{sum-below-in}
-use Rattle.theory_sound.specs.Ways.{same-self}
 use Rattle.theory_codes.specs.Codes.{codeOf, nowhere, placeOf}
 use Rattle.theory_codes.specs.Tables.{nextCode, tables}
 use Rattle.theory_codes.specs.Places.{place-code, same-element, head-code, known-coded, known-few}
 use Rattle.theory_passes.specs.Elements.{ahead-known}
-use Rattle.theory_passes.specs.Passes.{admits}
-use Rattle.moving.specs.Words.{wanted, holding, crowd, lets}
-use Rattle.theory_codes.specs.Lookups.{table-trains, table-last, table-capacity}
+use Rattle.moving.specs.Words.{wanted}
+use Rattle.theory_codes.specs.Lookups.{table-last}
 use Rattle.single.specs.Looks.{look-next}
-use Rattle.single.specs.Sums.{sum-below}
-use Rattle.single.specs.Shows.{standsIn, endIn, blockTerm, Shows}
+use Rattle.single.specs.Shows.{standsIn, Shows}
 
 module _ (C : Case) (sound : Sound C) where
   pub few : {k : ℕ} → k < length (C .trains) → k < 8
@@ -77,43 +69,3 @@ module _ (C : Case) (sound : Sound C) where
             whole true = refl
             whole false = refl
         go false = ne-eqb nowhere e (λ q. omega arith) ∙ sym (and-false (headIs (placeOf e) (ahead C k (placeOf (getD w k 0)))))
-
-    -- ---- who is let in
-
-    -- the marks on an element
-    pub crowd-count : (e : ℕ) → e ≤ 64 → crowd (tables C) t e w ≡ count (λ a. same (a .place) (placeOf e)) (s .list)
-    unfolding crowd holding
-    crowd-count e m =
-        ap (λ (n : ℕ). sum (λ k. tick (eqb (getD w k 0) e) + tick (ltb t (endIn w e k))) (below n)) (table-trains C)
-        ∙ sum-plus (λ k. tick (eqb (getD w k 0) e)) (λ k. tick (ltb t (endIn w e k))) (below (length (C .trains)))
-        ∙ sym (
-        h .sums (λ a. tick (same (a .place) (placeOf e)))
-        ∙ ap₂ _+_
-        (sum-below (λ k. tick (same (placeOf (getD w k 0)) (placeOf e))) (λ k. tick (eqb (getD w k 0) e)) (length (C .trains)) (λ k l. ap tick (same-element (getD w k 0) e m)))
-        (sum-below-in (λ i. sum (blockTerm t w (λ a. tick (same (a .place) (placeOf e))) i) (below (length (C .trains)))) e other 65 (omega arith)
-        ∙ sum-below (blockTerm t w (λ a. tick (same (a .place) (placeOf e))) e) (λ k. tick (ltb t (endIn w e k))) (length (C .trains))
-        (λ k l. ap (λ (b : Bool). tick (ltb t (endIn w e k)) * tick b) (same-self (placeOf e)) ∙ mul-one (tick (ltb t (endIn w e k)))))
-        )
-      where
-        other : (i : ℕ) → (i ≡ e → ⊥) → sum (blockTerm t w (λ a. tick (same (a .place) (placeOf e))) i) (below (length (C .trains))) ≡ 0
-        other i d =
-            sum-below (blockTerm t w (λ a. tick (same (a .place) (placeOf e))) i) (λ k. 0) (length (C .trains))
-            (λ k l. ap (λ (b : Bool). tick (ltb t (endIn w i k)) * tick b) (same-element i e m ∙ ne-eqb i e d) ∙ mul-zero (tick (ltb t (endIn w i k))))
-            ∙ sum-zero (below (length (C .trains)))
-
-    pub lets-admits : (e : ℕ) → e ≤ 64 → lets (tables C) t e w ≡ admits C (placeOf e) (s .list)
-    unfolding lets admits placeOf
-    lets-admits e m = go (eqb e 64) refl
-      where
-        way-out : same (placeOf e) gone ≡ eqb e 64
-        way-out = same-element e 64 (omega arith)
-
-        go : (b : Bool) → eqb e 64 ≡ b
-            → (eqb e 64 || ltb (crowd (tables C) t e w) (getD (tables C) (176 + e) 0)) ≡ (same (placeOf e) gone || ltb (count (λ a. same (a .place) (placeOf e)) (s .list)) (capacity C (placeOf e)))
-        go true q =
-            ap (λ (z : Bool). z || ltb (crowd (tables C) t e w) (getD (tables C) (176 + e) 0)) q
-            ∙ sym (ap (λ (z : Bool). z || ltb (count (λ a. same (a .place) (placeOf e)) (s .list)) (capacity C (placeOf e))) (way-out ∙ q))
-        go false q =
-            let d : e ≡ 64 → ⊥ = eqb-false e 64 q in
-            ap₂ (λ (y : Bool) (z : ℕ). y || ltb z (getD (tables C) (176 + e) 0)) (sym way-out) (crowd-count e m)
-            ∙ ap (λ (z : ℕ). same (placeOf e) gone || ltb (count (λ a. same (a .place) (placeOf e)) (s .list)) z) (table-capacity C e (omega arith))

@@ -4,6 +4,7 @@ pub mod Skips
 pub mod Shows
 pub mod Passing
 pub mod Asking
+pub mod Letting
 pub mod Entering
 pub mod Serving
 pub mod Waiting

@@ -19,13 +19,14 @@ use Rattle.theory_sound.specs.Facts.{SoundPairs, Sound}
 use Rattle.theory_sound.specs.Trains.{way-planned, plan-most, planned-low}
 use Rattle.theory_sound.specs.Ways.{same-self}
 use Rattle.theory_codes.specs.Codes.{codeOf, placeOf}
-use Rattle.theory_codes.specs.Tables.{order, headCode, nextCode, stayOn, perTrain, perPair, headTable, trainTables, pairTables, tables}
+use Rattle.theory_codes.specs.Tables.{order, headCode, nextCode, stayOn, partnerCode, perTrain, perPair, headTable, trainTables, pairTables, tables}
 use Rattle.theory_passes.specs.Order.{order-known}
 use Rattle.theory_passes.specs.Elements.{ahead-known}
 use Rattle.theory_passes.specs.Bounds.{ByteDelays, arrival-low, delay-low}
 use Rattle.moving.specs.Words.{Small}
 use Rattle.theory_codes.specs.Places.{known-few}
 use Rattle.theory_codes.specs.Lookups.{table-minute}
+use Rattle.theory_codes.specs.Partners.{partner-few}
 use Rattle.single.specs.Asking.{last-known}
 
 abbrev pub Low : ℕ → Type 0
@@ -86,14 +87,18 @@ module _ (C : Case) (sound : Sound C) (bytes : ByteDelays C) where
   stay-low k e =
       omega (arith, planned-low (C .head .lastMinute) (placeOf e) (way C k) (way-planned C sound k), sound .in-window)
 
+  partner-low : (e : ℕ) → Low (partnerCode C e)
+  partner-low e = omega (arith, partner-few C sound e)
+
   pub tables-low : Every Low (tables C)
   unfolding tables
   tables-low =
-      every-append Low (headTable C) (trainTables C ++ pairTables C ++ capacities ++ nexts ++ stays) head-low
-      (every-append Low (trainTables C) (pairTables C ++ capacities ++ nexts ++ stays) train-low
-      (every-append Low (pairTables C) (capacities ++ nexts ++ stays) pair-low
-      (every-append Low capacities (nexts ++ stays) (map-low (λ e. capacity C (placeOf e)) (λ e. capacity-low (placeOf e)) (below 64))
-      (every-append Low nexts stays (rows-low (nextCode C) 128 next-low (below 8)) (rows-low (stayOn C) 128 stay-low (below 8))))))
+      every-append Low (headTable C) (trainTables C ++ pairTables C ++ capacities ++ nexts ++ stays ++ partners) head-low
+      (every-append Low (trainTables C) (pairTables C ++ capacities ++ nexts ++ stays ++ partners) train-low
+      (every-append Low (pairTables C) (capacities ++ nexts ++ stays ++ partners) pair-low
+      (every-append Low capacities (nexts ++ stays ++ partners) (map-low (λ e. capacity C (placeOf e)) (λ e. capacity-low (placeOf e)) (below 64))
+      (every-append Low nexts (stays ++ partners) (rows-low (nextCode C) 128 next-low (below 8))
+      (every-append Low stays partners (rows-low (stayOn C) 128 stay-low (below 8)) (map-low (partnerCode C) partner-low (below 64)))))))
     where
       capacities : List ℕ
       capacities = map (λ e. capacity C (placeOf e)) (below 64)
@@ -103,6 +108,9 @@ module _ (C : Case) (sound : Sound C) (bytes : ByteDelays C) where
 
       stays : List ℕ
       stays = each (λ k. map (stayOn C k) (below 128)) (below 8)
+
+      partners : List ℕ
+      partners = map (partnerCode C) (below 64)
 
       zero-low : Low 0
       zero-low = omega arith

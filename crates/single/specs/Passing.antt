@@ -34,19 +34,19 @@ module _ (C : Case) (t : ℕ) (p : Place) (k : ℕ) (low : k < length (C .trains
 
   -- the train's standing mark asks for the element and is let in
   abbrev pub going : Bool
-  going = asks C t p (standsIn w k) && admits C p (s .list)
+  going = asks C t p (standsIn w k) && admits C p k (s .list)
 
   goes-other : (j : ℕ) → (j ≡ k → ⊥) → goes C t p k (s .list) (standsIn w j) ≡ false
   unfolding goes asksFor
-  goes-other j d = ap (λ (z : Bool). (z && asks C t p (standsIn w j)) && admits C p (s .list)) (ne-eqb j k d)
+  goes-other j d = ap (λ (z : Bool). (z && asks C t p (standsIn w j)) && admits C p k (s .list)) (ne-eqb j k d)
 
   goes-own : goes C t p k (s .list) (standsIn w k) ≡ going
   unfolding goes asksFor
-  goes-own = ap (λ (z : Bool). (z && asks C t p (standsIn w k)) && admits C p (s .list)) (eq-eqb k k refl)
+  goes-own = ap (λ (z : Bool). (z && asks C t p (standsIn w k)) && admits C p k (s .list)) (eq-eqb k k refl)
 
   goes-block : (e j : ℕ) → goes C t p k (s .list) (blockIn w e j) ≡ false
   unfolding goes asksFor asks
-  goes-block e j = ap (λ (z : Bool). z && admits C p (s .list)) (and-false (eqb j k))
+  goes-block e j = ap (λ (z : Bool). z && admits C p k (s .list)) (and-false (eqb j k))
 
   -- ---- the list after the pass
 
@@ -95,7 +95,7 @@ module _ (C : Case) (t : ℕ) (p : Place) (k : ℕ) (low : k < length (C .trains
   arrivals-same =
       every-each (λ m. goes C t p k (s .list) m ≡ true) (λ v. v ≡ home) (arriving C t p)
       (λ m q. every-one (λ v. v ≡ home) (same p (lastStation C (m .train))) (arrives (stands (m .train) p (dueAgain C t (m .train) p)) t)
-      (λ r. ap (λ (j : ℕ). arrives (stands j p (dueAgain C t j p)) t) (asksFor-train C t p k m (and-true-first (asksFor C t p k m) (admits C p (s .list)) q))))
+      (λ r. ap (λ (j : ℕ). arrives (stands j p (dueAgain C t j p)) t) (asksFor-train C t p k m (and-true-first (asksFor C t p k m) (admits C p k (s .list)) q))))
       (keep (goes C t p k (s .list)) (s .list)) (keep-passes (goes C t p k (s .list)) (s .list))
 
   abbrev arrivedTerm : Mark → ℕ

@@ -23,14 +23,15 @@ use Rattle.theory_codes.specs.Codes.{placeOf}
 use Rattle.theory_codes.specs.Tables.{stayOn, tables}
 use Rattle.theory_passes.specs.Passes.{admits, passTrain}
 use Rattle.theory_passes.specs.Single.{InOrder}
-use Rattle.moving.specs.Words.{enteredIn, servedIn}
+use Rattle.moving.specs.Words.{lets, enteredIn, servedIn}
 use Rattle.theory_codes.specs.Places.{same-codes}
 use Rattle.theory_codes.specs.Lookups.{table-safety}
 use Rattle.single.specs.Looks.{look-stay}
 use Rattle.single.specs.Sums.{sum-below, sum-change, sum-term, orElse, orElse-none}
 use Rattle.single.specs.Shows.{standsIn, blockIn, endIn, blockTerm, standsSum, blocksSum, minuteIn, Shows}
 use Rattle.single.specs.Passing.{going, pass-sums, pass-arrived}
-use Rattle.single.specs.Asking.{few, goal-last, wanted-asks, lets-admits}
+use Rattle.single.specs.Asking.{few, goal-last, wanted-asks}
+use Rattle.single.specs.Letting.{lets-admits}
 use Rattle.single.specs.Entering.{entered-size, entered-place, entered-due, entered-others, entered-arrival, entered-blocks, entered-block, entered-outside}
 
 -- ---- numbers
@@ -254,14 +255,15 @@ module _ (C : Case) (sound : Sound C) (t e k : ℕ) (low : k < length (C .trains
   served-shows o =
       subst (λ (u : List ℕ). Shows C t u (passTrain C t p k s))
       (sym (
-      ap₂ (λ (a b : Bool). cond a (cond b w′ w) w) (wanted-asks C sound t w s h k e low element) (lets-admits C sound t w s h e element)
-      ∙ both (asks C t p old) (admits C p (s .list))
+      ap (λ (a : Bool). cond a (cond (lets (tables C) t e w) w′ w) w) (wanted-asks C sound t w s h k e low element)
+      ∙ both (asks C t p old) refl
       ))
       (go goesNow refl)
     where
-      both : (a b : Bool) → cond a (cond b w′ w) w ≡ cond (a && b) w′ w
-      both true b = refl
-      both false b = refl
+      -- the words let in who asks as the marks do
+      both : (a : Bool) → asks C t p old ≡ a → cond a (cond (lets (tables C) t e w) w′ w) w ≡ cond (a && admits C p k (s .list)) w′ w
+      both true q = ap (λ (b : Bool). cond b w′ w) (lets-admits C sound t w s h e element k low o q)
+      both false q = refl
 
       go : (b : Bool) → goesNow ≡ b → Shows C t (cond goesNow w′ w) (passTrain C t p k s)
       go true q = subst (λ (b : Bool). Shows C t (cond b w′ w) (passTrain C t p k s)) (sym q) (goes-shows o q)

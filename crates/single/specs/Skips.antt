@@ -1,7 +1,8 @@
 -- A minute in which nobody can be let in changes nothing, so the search for an arrival goes on at the next minute in which somebody can be.
--- While nobody moves, what a train asks for changes only when it becomes due, and a crowd only when a block ends. Assumes nothing.
-use mathlib.Core.Path.{_≡_, refl, sym, ap, _∙_}
-use mathlib.Core.Bool.{Bool, true, false, _||_, cond}
+-- While nobody moves, what a train asks for changes only when it becomes due, and whether it is let in only when a block on what it asks for ends, or on
+-- the partner of that. Assumes nothing.
+use mathlib.Core.Path.{_≡_, refl, sym, ap, ap₂, _∙_}
+use mathlib.Core.Bool.{Bool, true, false, _&&_, _||_, cond}
 use mathlib.Core.List.{List}
 use Prim.Native.Nat.{ℕ, zero, suc, _+_, _-_, _*_, _≤_, _<_}
 use native.Mathlib.Omega.{arith}
@@ -10,7 +11,8 @@ use lib.Dec.{leb, ltb, eqb}
 use borrow.Author.Tests.{leb-true, leb-false, ltb-true, ltb-false, eqb-true, eqb-false, le-leb, lt-leb, lt-ltb, le-ltb, eq-eqb}
 use Rattle.rules.specs.Lists.{tick, fold, span}
 use Rattle.theory_codes.specs.Codes.{nowhere}
-use Rattle.moving.specs.Words.{trainsIn, orderIn, wanted, holding, crowd, lets, enteredIn, servedIn, elementIn, minuteIn, later, freedIn, readyIn, nextIn, soughtIn}
+use Rattle.moving.specs.Words.{trainsIn, orderIn, wanted, holding, crowd, partnerOf, across, lets, enteredIn, servedIn, elementIn, minuteIn}
+use Rattle.moving.specs.Words.{later, freedIn, reopenedIn, readyIn, nextIn, soughtIn}
 use Rattle.moving.specs.Turns.{least-most, least-each, least-from, fold-stays, sought-next, sought-end}
 use Rattle.single.specs.Sums.{sum-below}
 
@@ -60,10 +62,58 @@ module _ (T w : List ℕ) where
       go true q = lt-ltb s end (h (ltb-true r end q)) ∙ sym q
       go false q = let m : end ≤ r = ltb-false r end q in le-ltb s end (omega arith) ∙ sym q
 
-  lets-stays : (e r s : ℕ) → r ≤ s → Blocked e r s → lets T s e w ≡ lets T r e w
-  unfolding lets crowd
-  lets-stays e r s l h =
-      ap (λ (n : ℕ). eqb e 64 || ltb n (getD T (176 + e) 0)) (sum-below (holding s e w) (holding r e w) (trainsIn T) (λ k m. holding-stays e r s k l (h k m)))
+  crowd-stays : (e r s : ℕ) → r ≤ s → Blocked e r s → crowd T s e w ≡ crowd T r e w
+  unfolding crowd
+  crowd-stays e r s l h = sum-below (holding s e w) (holding r e w) (trainsIn T) (λ k m. holding-stays e r s k l (h k m))
+
+  -- the same of the blocks on the partner of e, if it has one
+  abbrev BlockedAcross : ℕ → ℕ → ℕ → Type 0
+  BlockedAcross e r s = (partnerOf T e ≡ 0 → ⊥) → Blocked (partnerOf T e) r s
+
+  across-stays : (e r s : ℕ) → r ≤ s → BlockedAcross e r s → across T s e w ≡ across T r e w
+  unfolding across
+  across-stays e r s l h = go (eqb (partnerOf T e) 0) refl
+    where
+      go : (b : Bool) → eqb (partnerOf T e) 0 ≡ b → cond b 0 (crowd T s (partnerOf T e) w) ≡ cond b 0 (crowd T r (partnerOf T e) w)
+      go true q = refl
+      go false q = crowd-stays (partnerOf T e) r s l (h (eqb-false (partnerOf T e) 0 q))
+
+  lets-stays : (e r s : ℕ) → r ≤ s → Blocked e r s → BlockedAcross e r s → lets T s e w ≡ lets T r e w
+  unfolding lets
+  lets-stays e r s l h i =
+      ap₂ (λ (n m : ℕ). eqb e 64 || (ltb n (getD T (176 + e) 0) && eqb m 0)) (crowd-stays e r s l h) (across-stays e r s l i)
+
+  -- ---- when that may change
+
+  -- r lies after t and not after b, and before r no block on e ends that has not ended in minute t
+  abbrev Until : ℕ → ℕ → ℕ → ℕ → Type 0
+  Until t e b r = (r ≤ b) × (t < r) × ((s : ℕ) → s < r → Blocked e t s)
+
+  freed-until : (t e b : ℕ) → t < b → Until t e b (freedIn T t e w b)
+  unfolding freedIn
+  freed-until t e b before =
+      let ends : ℕ → ℕ = λ j. getD w (24 + e * 8 + j) 0 in (
+        least-most (t + 1) ends (trainsIn T) 0 b,
+        omega (arith, least-from (t + 1) ends (trainsIn T) 0 b (omega arith)),
+        λ s l j f g. omega (arith, least-each (t + 1) ends (trainsIn T) 0 b j (omega arith) (omega arith) (omega arith)),
+      )
+
+  -- r lies after t and not after b, and before r it stays who is let in at e
+  abbrev Settled : ℕ → ℕ → ℕ → ℕ → Type 0
+  Settled t e b r = (r ≤ b) × (t < r) × ((s : ℕ) → t ≤ s → s < r → lets T s e w ≡ lets T t e w)
+
+  reopened-settled : (t e b : ℕ) → t < b → Settled t e b (reopenedIn T t e w b)
+  unfolding reopenedIn
+  reopened-settled t e b before = go (eqb (partnerOf T e) 0) refl
+    where
+      own : Until t e b (freedIn T t e w b)
+      own = freed-until t e b before
+
+      go : (c : Bool) → eqb (partnerOf T e) 0 ≡ c → Settled t e b (cond c (freedIn T t e w b) (freedIn T t (partnerOf T e) w (freedIn T t e w b)))
+      go true q = (own .0, own .1, λ s l m. lets-stays e t s l (own .2 s m) (λ some. absurd (some (eqb-true (partnerOf T e) 0 q))))
+      go false q =
+          let other = freed-until t (partnerOf T e) (freedIn T t e w b) (own .1) in
+          (omega (arith, own .0, other .0), other .1, λ s l m. lets-stays e t s l (own .2 s (omega (arith, other .0))) (λ some. other .2 s m))
 
   -- ---- when a train can be let in
 
@@ -96,17 +146,12 @@ module _ (T w : List ℕ) where
     asked-later : (s : ℕ) → from ≤ s → wanted T s w k ≡ asked
     asked-later s h = wanted-due from s k (later-facts t (due k) .1) (omega (arith, later-facts t (due k) .1))
 
-    held : from < b → lets T from asked w ≡ false → Waits t k b (freedIn T from asked w b)
-    unfolding freedIn
+    held : from < b → lets T from asked w ≡ false → Waits t k b (reopenedIn T from asked w b)
     held before q =
-        let ends : ℕ → ℕ = λ j. getD w (24 + asked * 8 + j) 0 in
-        let first = later-facts t (due k) .0 in (
-          least-most (from + 1) ends (trainsIn T) 0 b,
-          omega (arith, first, least-from (from + 1) ends (trainsIn T) 0 b (omega arith)),
-          λ s l m. stays-from s l (λ h e low r.
-              ap (λ (p : ℕ). lets T s p w) (sym r ∙ asked-later s h)
-              ∙ lets-stays asked from s h (λ j f g. omega (arith, least-each (from + 1) ends (trainsIn T) 0 b j (omega arith) (omega arith) (omega arith)))
-              ∙ q),
+        let settled = reopened-settled from asked b before in (
+          settled .0,
+          omega (arith, later-facts t (due k) .0, settled .1),
+          λ s l m. stays-from s l (λ h e low r. ap (λ (p : ℕ). lets T s p w) (sym r ∙ asked-later s h) ∙ settled .2 s h m ∙ q),
         )
 
     pub ready-waits : Waits t k b (readyIn T t w k b)
@@ -120,7 +165,7 @@ module _ (T w : List ℕ) where
         at-from l = (omega arith, first, λ s m n. stays-from s m (λ p. absurd (omega arith)))
 
         go : (x y v z : Bool) → ltb from b ≡ x → ltb asked 65 ≡ y → lets T from asked w ≡ z
-            → Waits t k b (cond x (cond y (cond v from (cond z from (freedIn T from asked w b))) b) b)
+            → Waits t k b (cond x (cond y (cond v from (cond z from (reopenedIn T from asked w b))) b) b)
         go true true true z f g h = at-from (ltb-true from b f)
         go true true false true f g h = at-from (ltb-true from b f)
         go true true false false f g h = held (ltb-true from b f) h

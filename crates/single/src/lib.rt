@@ -2,7 +2,7 @@
 ghost use mathlib.Core.Path.{_≡_};
 ghost use Prim.Native.Nat.{suc, _≤_, _<_};
 ghost use lib.ListN.{getD};
-ghost use Rattle.moving.specs.Words.{Small, freedIn, readyIn, nextIn, waitsIn, startIn, soughtIn, answerIn};
+ghost use Rattle.moving.specs.Words.{Small, freedIn, reopenedIn, readyIn, nextIn, waitsIn, startIn, soughtIn, answerIn};
 ghost use Rattle.single.specs.Runs.{Arrives};
 
 // The later of two minutes.
@@ -17,7 +17,7 @@ fn later(a: u64, b: u64) -> u64
 
 // The first minute after t in which a block on e has ended, if it comes before bound.
 fn freed(tables: &[u64], run: &[u64], t: u64, e: u64, bound: u64) -> u64
-    requires { ⌜ Small (now tables) × (t < 65536) × (e < 65) ⌝ }
+    requires { ⌜ Small (now tables) × (t < 65536) × (e < 4294967296) ⌝ }
     ensures { λ r. ⌜ r ≡ freedIn (now (tables .entry)) t e (now (run .entry)) bound ⌝ }
 {
     let n = words::at(tables, 0);
@@ -29,6 +29,19 @@ fn freed(tables: &[u64], run: &[u64], t: u64, e: u64, bound: u64) -> u64
         k += 1;
     }
     best
+}
+
+// The first minute after t in which a block on e or on its partner has ended, if it comes before bound: until then, who is held at e stays so.
+fn reopened(tables: &[u64], run: &[u64], t: u64, e: u64, bound: u64) -> u64
+    requires { ⌜ Small (now tables) × (t < 65536) × (e < 65) ⌝ }
+    ensures { λ r. ⌜ r ≡ reopenedIn (now (tables .entry)) t e (now (run .entry)) bound ⌝ }
+{
+    let own = freed(tables, run, t, e, bound);
+    let partner = words::at(tables, 2288 + e);
+    if partner == 0 {
+        return own;
+    }
+    freed(tables, run, t, partner, own)
 }
 
 // Before this minute train k is not let in from t on, if it comes before bound: when it becomes due, or, if it is held, when a block has ended.
@@ -46,7 +59,7 @@ fn ready(tables: &[u64], run: &[u64], t: u64, k: u64, bound: u64) -> u64
             if moving::lets(tables, run, from, e) {
                 return from;
             }
-            return freed(tables, run, from, e, bound);
+            return reopened(tables, run, from, e, bound);
         }
     }
     bound

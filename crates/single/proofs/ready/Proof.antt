@@ -1,4 +1,5 @@
--- `single::ready` meets its contract: a train that is due asks for its next element, and if it is held, waits for the end of a block. Assumes nothing.
+-- `single::ready` meets its contract: a train that is due asks for its next element, and if it is held, waits for the end of a block there or on its partner.
+-- Assumes nothing.
 use mathlib.Core.Path.{sym, ap, _∙_}
 use borrow.Author.Tests.{lt-ltb, le-ltb}
 use Rattle.moving.specs.Words.{later, readyIn}
@@ -20,29 +21,70 @@ wanted-requires c κs = search needs
 
 returns : tie.Need-returns
 unfolding readyIn
-returns c = simp (sym (c .before .before .before .before .later .ensures ∙ ap (later (c .before .before .before .before .before .before .before .before .args .t)) (c .before .before .before .before .before .at .ensures)), lt-ltb _ _ (c .before .before .before .if1 .taken), sym (c .before .before .wanted .ensures), lt-ltb _ _ (c .before .if2 .taken), lt-ltb _ _ (c .if3 .taken))
+returns c =
+    let from = c .before .before .before .before in
+    simp (
+      sym (from .later .ensures ∙ ap (later (from .before .before .before .before .args .t)) (from .before .at .ensures)),
+      lt-ltb _ _ (c .before .before .before .if1 .taken),
+      sym (c .before .before .wanted .ensures),
+      lt-ltb _ _ (c .before .if2 .taken),
+      lt-ltb _ _ (c .if3 .taken),
+    )
 
 lets-requires : tie.Need-lets-requires
 lets-requires c κs = search needs
 
 returns-2 : tie.Need-returns-2
 unfolding readyIn
-returns-2 c = simp (sym (c .before .before .before .before .before .before .later .ensures ∙ ap (later (c .before .before .before .before .before .before .before .before .before .before .args .t)) (c .before .before .before .before .before .before .before .at .ensures)), lt-ltb _ _ (c .before .before .before .before .before .if1 .taken), sym (c .before .before .before .before .wanted .ensures), lt-ltb _ _ (c .before .before .before .if2 .taken), le-ltb _ _ (c .before .before .if3 .left), sym (c .before .lets .ensures), c .if4 .taken)
+returns-2 c =
+    let from = c .before .before .before .before .before .before in
+    simp (
+      sym (from .later .ensures ∙ ap (later (from .before .before .before .before .args .t)) (from .before .at .ensures)),
+      lt-ltb _ _ (c .before .before .before .before .before .if1 .taken),
+      sym (c .before .before .before .before .wanted .ensures),
+      lt-ltb _ _ (c .before .before .before .if2 .taken),
+      le-ltb _ _ (c .before .before .if3 .left),
+      sym (c .before .lets .ensures),
+      c .if4 .taken,
+    )
 
-freed-requires : tie.Need-freed-requires
-freed-requires c κs = search needs
+reopened-requires : tie.Need-reopened-requires
+reopened-requires c κs = search needs
 
 returns-3 : tie.Need-returns-3
 unfolding readyIn
-returns-3 c = simp (sym (c .before .before .before .before .before .before .before .later .ensures ∙ ap (later (c .before .before .before .before .before .before .before .before .before .before .before .args .t)) (c .before .before .before .before .before .before .before .before .at .ensures)), lt-ltb _ _ (c .before .before .before .before .before .before .if1 .taken), sym (c .before .before .before .before .before .wanted .ensures), lt-ltb _ _ (c .before .before .before .before .if2 .taken), le-ltb _ _ (c .before .before .before .if3 .left), sym (c .before .before .lets .ensures), c .before .if4 .left) (c .freed .ensures)
+returns-3 c =
+    let from = c .before .before .before .before .before .before .before in
+    simp (
+      sym (from .later .ensures ∙ ap (later (from .before .before .before .before .args .t)) (from .before .at .ensures)),
+      lt-ltb _ _ (c .before .before .before .before .before .before .if1 .taken),
+      sym (c .before .before .before .before .before .wanted .ensures),
+      lt-ltb _ _ (c .before .before .before .before .if2 .taken),
+      le-ltb _ _ (c .before .before .before .if3 .left),
+      sym (c .before .before .lets .ensures),
+      c .before .if4 .left,
+    )
+    (c .reopened .ensures)
 
 returns-4 : tie.Need-returns-4
 unfolding readyIn
-returns-4 c = simp (sym (c .before .before .before .later .ensures ∙ ap (later (c .before .before .before .before .before .before .before .args .t)) (c .before .before .before .before .at .ensures)), lt-ltb _ _ (c .before .before .if1 .taken), sym (c .before .wanted .ensures), le-ltb _ _ (c .if2 .left))
+returns-4 c =
+    let from = c .before .before .before in
+    simp (
+      sym (from .later .ensures ∙ ap (later (from .before .before .before .before .args .t)) (from .before .at .ensures)),
+      lt-ltb _ _ (c .before .before .if1 .taken),
+      sym (c .before .wanted .ensures),
+      le-ltb _ _ (c .if2 .left),
+    )
 
 returns-5 : tie.Need-returns-5
 unfolding readyIn
-returns-5 c = simp (sym (c .before .later .ensures ∙ ap (later (c .before .before .before .before .before .args .t)) (c .before .before .at .ensures)), le-ltb _ _ (c .if1 .left))
+returns-5 c =
+    let from = c .before in
+    simp (
+      sym (from .later .ensures ∙ ap (later (from .before .before .before .before .args .t)) (from .before .at .ensures)),
+      le-ltb _ _ (c .if1 .left),
+    )
 
 pub ready-spec : {M : Type 1} → statement M
 ready-spec =
@@ -55,7 +97,7 @@ ready-spec =
     returns
     lets-requires
     returns-2
-    freed-requires
+    reopened-requires
     returns-3
     returns-4
     returns-5)
