@@ -1,5 +1,5 @@
 -- The cutting rule on packed covers is the cutting rule of 01: the pieces of packed covers are the pieces of the covers, packed, in order.
--- `carried` and `carry` take the same turns, since each test and each cover of a turn is the other's, packed. Assumes nothing.
+-- `carried` and `carry` take the same turns, and so do `crossed` and `across`, since each test and each cover of a turn is the other's, packed. Assumes nothing.
 use mathlib.Core.Path.{_≡_, refl, ap}
 use mathlib.Core.Bool.{Bool, true, false, not, cond}
 use mathlib.Core.List.{List, [], _∷_, _++_, map, map-append}
@@ -7,9 +7,9 @@ use Prim.Native.Nat.{ℕ, suc, _+_, _-_}
 use lib.ListN.{length, length-map}
 use lib.Dec.{leb, ltb}
 use Rattle.rules.specs.Lists.{one, each, keep}
-use Rattle.rules.specs.Joint.{Cover, inside, apart, outsides, Piece, piece, carry}
+use Rattle.rules.specs.Joint.{Cover, inside, apart, outsides, Piece, piece, carry, across}
 use Rattle.theory_lists.specs.Every.{Every}
-use Rattle.cut.specs.Cut.{Part, outs, turn, carried, heldOf, enteringOf}
+use Rattle.cut.specs.Cut.{Part, part, outs, turn, carried, crossed, cutBy, heldOf, enteringOf}
 use Rattle.cut.specs.Packed.{packed, packedPiece, Packable}
 use Rattle.cut.specs.Covers.{inside-packed, inside-sets, full-packed, outs-are, outsides-sets}
 
@@ -40,6 +40,30 @@ module _ {k : ℕ} (cap : ℕ) where
       (carried-carry qs (h .1) n p own)
       (carried-carry qs (h .1) (suc n) (inside p q) (inside-sets own (h .0)))
       (rw (outs-are own (h .0)) (each-packed (carried cap (map packed qs) n) (carry cap qs n) (carried-carry qs (h .1) n) (outsides p (inside p q)) (outsides-sets own (h .0)))))
+
+-- ---- the pieces that meet a partner's covers first
+
+cross-cut : (a : Bool) (c : Cover) (x y : List Part) (x′ y′ : List Piece) → x ≡ map packedPiece x′ → y ≡ map packedPiece y′
+    → cond (not a) (part (packed c) true ∷ x) y ≡ map packedPiece (cond a y′ (piece c true ∷ x′))
+cross-cut true c x y x′ y′ e f = f
+cross-cut false c x y x′ y′ e f = ap (λ (l : List Part). part (packed c) true ∷ l) e
+
+module _ {k : ℕ} (on′ : ℕ → List Part) (on : Cover → List Piece)
+    (same : (p : Cover) → Packable k p → on′ (packed p) ≡ map packedPiece (on p)) where
+  pub crossed-across : (ms : List Cover) → Every (Packable k) ms → (p : Cover) → Packable k p
+      → crossed on′ (map packed ms) (packed p) ≡ map packedPiece (across on ms p)
+  unfolding crossed across
+  crossed-across [] h p own = same p own
+  crossed-across (q ∷ qs) h p own =
+      rw (inside-packed own (h .0), full-packed (inside-sets own (h .0)))
+      (cross-cut (apart (inside p q)) (inside p q) _ _ (each (across on qs) (outsides p (inside p q))) (across on qs p)
+      (rw (outs-are own (h .0))
+      (each-packed (crossed on′ (map packed qs)) (across on qs) (crossed-across qs (h .1)) (outsides p (inside p q)) (outsides-sets own (h .0))))
+      (crossed-across qs (h .1) p own))
+
+pub cutBy-pieces : {k : ℕ} (cap : ℕ) (ms es : List Cover) → Every (Packable k) ms → Every (Packable k) es → (p : Cover) → Packable k p
+    → cutBy (record { cap = cap; partner = map packed ms; own = map packed es }) (packed p) ≡ map packedPiece (across (carry cap es 0) ms p)
+cutBy-pieces cap ms es g h p own = crossed-across (carried cap (map packed es) 0) (carry cap es 0) (carried-carry cap es h 0) ms g p own
 
 -- ---- what is written, in the words of 01
 

@@ -3,7 +3,7 @@ use mathlib.Core.Path.{_≡_}
 use mathlib.Core.Bool.{Bool, true, false, not, cond}
 use mathlib.Core.List.{List, [], _∷_, _++_, map}
 use Prim.Native.Nat.{ℕ, zero, suc, _+_, _-_, _*_, _/_, _%_, _^_, _≤_}
-use lib.ListN.{length, take}
+use lib.ListN.{length, take, drop}
 use lib.Seq.{sets}
 use lib.Dec.{leb, ltb, eqb}
 use lib.Bits.{bitAnd}
@@ -44,6 +44,28 @@ turn false false true on n p c = on (suc n) c ++ each (on n) (outs 8 0 c (p - c)
 unfoldable pub carried : ℕ → List ℕ → ℕ → ℕ → List Part
 carried cap [] n p = part p (leb cap n) ∷ []
 carried cap (m ∷ ms) n p = turn (leb cap n) (ltb (n + suc (length ms)) cap) (fullOf 8 (bitAnd p m)) (carried cap ms) n p (bitAnd p m)
+
+-- the piece p, carried through the partner's covers still to meet: the inside is held at once, and the outside pieces go on; what becomes of a piece that has
+-- passed them all, `on` says
+unfoldable pub crossed : (ℕ → List Part) → List ℕ → ℕ → List Part
+crossed on [] p = on p
+crossed on (m ∷ ms) p =
+    let c = bitAnd p m in
+    cond (fullOf 8 c) (part c true ∷ each (crossed on ms) (outs 8 0 c (p - c))) (crossed on ms p)
+
+-- what an asker meets: the capacity, the partner's covers and the element's own, each in list order
+pub record Met : Type 0 where
+  pub cap : ℕ
+  pub partner : List ℕ
+  pub own : List ℕ
+
+-- what becomes of the asking piece p: it meets the partner's covers, and then, with count 0, the element's own
+abbrev pub cutBy : Met → ℕ → List Part
+cutBy m p = crossed (carried (m .cap) (m .own) 0) (m .partner) p
+
+-- the same of one list, which has the partner's covers first, so many, of which those from a place on are still to meet, and then the element's own
+abbrev pub crossedFrom : ℕ → List ℕ → ℕ → ℕ → ℕ → List Part
+crossedFrom cap met first at p = crossed (carried cap (drop first met) 0) (drop at (take first met)) p
 
 abbrev pub onward : Bool → Bool → ℕ → ℕ
 onward true meets k = 0

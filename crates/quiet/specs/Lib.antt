@@ -1,3 +1,4 @@
 pub mod Parts
 pub mod Quiet
 pub mod Like
+pub mod Crossed

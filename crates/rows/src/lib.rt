@@ -56,7 +56,7 @@ fn offer(out: &mut [u64], w: usize, s: u64, c: u64, k: u64) -> usize
 // The covers that train k meets at e among the first n rows, from the start of `out` on.
 pub fn gather(rows: &[u64], n: usize, e: u64, k: u64, out: &mut [u64]) -> usize
     requires { ⌜ (n * 2 ≤ length (now rows)) × (n ≤ length (now out)) ⌝ }
-    ensures { λ r. ⌜ Begins (metOf e k (rowsIn n (now (rows .entry)))) r (now (out .exit)) ⌝ }
+    ensures { λ r. ⌜ (r ≤ n) × Begins (metOf e k (rowsIn n (now (rows .entry)))) r (now (out .exit)) ⌝ }
 {
     let mut i = 0;
     let mut w = 0;

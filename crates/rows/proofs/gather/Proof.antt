@@ -68,7 +68,9 @@ same-length : tie.Need-same-length Inv-loop μ-loop
 same-length c = c .before .loop .inv .2
 
 returns : tie.Need-returns Inv-loop μ-loop
-returns c = let e : c .before .loop .i ≡ c .before .before .before .before .args .n = omega arith in record { few = omega (arith, c .before .loop .inv .1, c .before .loop .inv .2); list = rw (← e) (c .before .loop .inv .3) }
+returns c =
+    let e : c .before .loop .i ≡ c .before .before .before .before .args .n = omega arith in
+    (omega (arith, c .before .loop .inv .1), record { few = omega (arith, c .before .loop .inv .1, c .before .loop .inv .2); list = rw (← e) (c .before .loop .inv .3) })
 
 pub gather-spec : {M : Type 1} → statement M
 gather-spec =
