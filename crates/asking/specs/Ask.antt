@@ -3,10 +3,10 @@ use mathlib.Core.Path.{_≡_}
 use mathlib.Core.Bool.{Bool, false, not, cond}
 use mathlib.Core.List.{List, [], _∷_}
 use Prim.Native.Nat.{ℕ, _+_, _*_, _/_, _%_, _≤_, _<_}
-use lib.ListN.{getD}
+use lib.ListN.{length, take, drop, getD}
 use lib.Dec.{ltb, eqb}
 use lib.Bits.{bitAnd}
-use Rattle.cut.specs.Cut.{fullOf}
+use Rattle.cut.specs.Cut.{fullOf, Met}
 use Rattle.rows.specs.Rows.{Row, metOf}
 use Rattle.asking.specs.declared.Job.{Job}
 
@@ -43,21 +43,55 @@ askerOf T t e k (r ∷ rs) = cond (asksOf T t e k (r .state)) (r .state) (askerO
 unfoldable pub capOf : List ℕ → ℕ → ℕ
 capOf T e = cond (ltb e 64) (getD T (176 + e) 0) 1
 
--- minute, element and train; capacity; the state of what enters, and of the block that it leaves where the asker of the state s stands
+-- the code of the partner of e, 0 where it has none
+abbrev pub partnerOf : List ℕ → ℕ → ℕ
+partnerOf T e = getD T (2288 + e) 0
+
+-- partners are elements, each is the other's, and element 0 has none
+pub record Mutual (T : List ℕ) : Type 0 where
+  pub alone : partnerOf T 0 ≡ 0
+  pub low : (e : ℕ) → e < 128 → partnerOf T e < 64
+  pub back : (e : ℕ) → e < 128 → (partnerOf T e ≡ 0 → ⊥) → partnerOf T (partnerOf T e) ≡ e
+
+-- minute, element and train; capacity and partner; the state of what enters, and of the block that it leaves where the asker of the state s stands
 unfoldable pub jobOf : List ℕ → ℕ → ℕ → ℕ → ℕ → Job
 jobOf T t e k s = record {
   minute = t;
   place = e;
   train = k;
   cap = capOf T e;
+  partner = partnerOf T e;
   stands = k * 524288 + e * 4096 + (t + getD T (1264 + (k * 128 + e)) 0);
   blocks = k * 524288 + s / 4096 % 128 * 4096 + 2048 + (t + getD T 2 0);
   two = not (eqb (s / 4096 % 128) 65);
 }
 
--- the covers that the job's train meets
-unfoldable pub metFor : Job → List Row → List ℕ
-metFor q rs = cond (ltb (q .place) 64) (metOf (q .place) (q .train) rs) []
+-- the capacity and the partner that the job has are its element's
+pub record Suits (T : List ℕ) (q : Job) : Type 0 where
+  pub cap : q .cap ≡ capOf T (q .place)
+  pub partner : q .partner ≡ partnerOf T (q .place)
+
+-- the covers of other trains than k on the partner w of an element, 0 for none, and on an element e; nobody is met on the way out
+unfoldable pub metAcross : ℕ → ℕ → List Row → List ℕ
+metAcross w k rs = cond (eqb w 0) [] (metOf w k rs)
+
+unfoldable pub metOn : ℕ → ℕ → List Row → List ℕ
+metOn e k rs = cond (ltb e 64) (metOf e k rs) []
+
+-- what the job's train meets
+abbrev pub metFor : Job → List Row → Met
+metFor q rs = record { cap = q .cap; partner = metAcross (q .partner) (q .train) rs; own = metOn (q .place) (q .train) rs }
+
+-- what train k meets that asks for e
+abbrev pub metAt : List ℕ → ℕ → ℕ → List Row → Met
+metAt T e k rs = record { cap = capOf T e; partner = metAcross (partnerOf T e) k rs; own = metOn e k rs }
+
+-- what is met, in lent words: the partner's covers first, so many of them, and then the element's own, as many as make n in all
+pub record Gathered (m : Met) (first n : ℕ) (out : List ℕ) : Type 0 where
+  pub some : first ≤ n
+  pub few : n ≤ length out
+  pub partner : take first out ≡ m .partner
+  pub own : drop first (take n out) ≡ m .own
 
 abbrev pub askingOf : List ℕ → Job → Row → Bool
 askingOf T q r = asksOf T (q .minute) (q .place) (q .train) (r .state)

@@ -1,3 +1,4 @@
 pub mod Ask
 pub mod Asking
 pub mod Reach
+pub mod Gathering

@@ -7,15 +7,16 @@ ghost use lib.Seq.{slice};
 ghost use Rattle.theory_lists.specs.Every.{Every};
 ghost use Rattle.rows.specs.Rows.{row, rowsOf, rowsIn, rowAt, Begins};
 ghost use Rattle.weigh.specs.Weigh.{Small};
-ghost use Rattle.asking.specs.Ask.{dueOf, asksOf, reachOf, stirsOf, capOf, jobOf, metFor, Before, Within};
+ghost use Rattle.asking.specs.Ask.{dueOf, asksOf, reachOf, stirsOf, capOf, jobOf, metAcross, metOn, metFor, Gathered, Before, Within};
 
-// What a pass is for: minute, element and train; the element's capacity; the state of what enters, that of the block it leaves, and whether it
+// What a pass is for: minute, element and train; the element's capacity and its partner, 0 for none; the state of what enters, that of the block it leaves, and whether it
 // leaves one.
 pub struct Job {
     pub minute: u64,
     pub place: u64,
     pub train: u64,
     pub cap: usize,
+    pub partner: u64,
     pub stands: u64,
     pub blocks: u64,
     pub two: bool,
@@ -146,25 +147,57 @@ pub fn assign(tables: &[u64], t: u64, e: u64, k: u64, s: u64) -> Job
     let cap = capacity(tables, e);
     let stay = words::at(tables, 1264 + (k * 128 + e));
     let safety = words::at(tables, 2);
+    let partner = words::at(tables, 2288 + e);
     let from = s / 4096 % 128;
     Job {
         minute: t,
         place: e,
         train: k,
         cap: cap as usize,
+        partner: partner,
         stands: k * 524288 + e * 4096 + (t + stay),
         blocks: k * 524288 + from * 4096 + 2048 + (t + safety),
         two: from != 65,
     }
 }
 
-// The covers that the job's train meets; on the way out there are none.
-pub fn meet(rows: &[u64], n: usize, q: Job, out: &mut [u64]) -> usize
+// How many covers are met: the partner's, and all.
+pub struct Count {
+    pub partner: usize,
+    pub all: usize,
+}
+
+// The covers of other trains than k on the partner w of an element; without a partner there are none.
+fn meet_across(rows: &[u64], n: usize, w: u64, k: u64, out: &mut [u64]) -> usize
     requires { ⌜ (n * 2 ≤ length (now rows)) × (n ≤ length (now out)) ⌝ }
-    ensures { λ r. ⌜ Begins (metFor q (rowsIn n (now (rows .entry)))) r (now (out .exit)) ⌝ }
+    ensures { λ r. ⌜ (r ≤ n) × Begins (metAcross w k (rowsIn n (now (rows .entry)))) r (now (out .exit)) ⌝ }
 {
-    if q.place < 64 {
-        return rows::gather(rows, n, q.place, q.train, out);
+    if w == 0 {
+        return 0;
     }
-    0
+    rows::gather(rows, n, w, k, out)
+}
+
+// The covers of other trains than k on the element e; on the way out there are none.
+fn meet_on(rows: &[u64], n: usize, e: u64, k: u64, out: &mut [u64]) -> usize
+    requires { ⌜ (n * 2 ≤ length (now rows)) × (n ≤ length (now out)) ⌝ }
+    ensures { λ r. ⌜ (r ≤ n) × Begins (metOn e k (rowsIn n (now (rows .entry)))) r (now (out .exit)) ⌝ }
+{
+    if 64 <= e {
+        return 0;
+    }
+    rows::gather(rows, n, e, k, out)
+}
+
+// The covers that the job's train meets, the partner's first.
+pub fn meet(rows: &[u64], n: usize, q: Job, out: &mut [u64]) -> Count
+    requires { ⌜ (n * 2 ≤ length (now rows)) × (n * 2 ≤ length (now out)) ⌝ }
+    ensures { λ r. ⌜ Gathered (metFor q (rowsIn n (now (rows .entry)))) (r .partner) (r .all) (now (out .exit)) ⌝ }
+{
+    let first = meet_across(rows, n, q.partner, q.train, out);
+    let own = meet_on(rows, n, q.place, q.train, &mut out[first..]);
+    Count {
+        partner: first,
+        all: first + own,
+    }
 }

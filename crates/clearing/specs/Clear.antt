@@ -8,13 +8,13 @@ use lib.Dec.{eqb}
 use Rattle.theory_lists.specs.Every.{Every}
 use Rattle.rows.specs.Rows.{Row, rowsOf, endedOf, sweptOf}
 use Rattle.quiet.specs.Parts.{Sub}
-use Rattle.waiting.specs.Calm.{waitsOf, spot, spotOf, Calm, Told}
-use Rattle.waiting.specs.Notes.{stirIn, askedIn, toldAll, Flagged, Grows}
+use Rattle.waiting.specs.Calm.{waitsOf, spot, spotOf, Calm, Meets, Told}
+use Rattle.waiting.specs.Notes.{stirIn, askedIn, toldLeft, Flagged, Grows}
 use Rattle.visiting.specs.Visit.{wakeOf, Kept}
 
 -- what is noted where the row of the state s with the cover c goes, if it is a block that ended before t
-unfoldable pub leftOf : ℕ → ℕ → ℕ → List ℕ → List ℕ
-leftOf t s c N = cond (endedOf t s) (toldAll 8 N (s / 4096 % 128) c) N
+unfoldable pub leftOf : List ℕ → ℕ → ℕ → ℕ → List ℕ → List ℕ
+leftOf T t s c N = cond (endedOf t s) (toldLeft T N (s / 4096 % 128) c) N
 
 -- what is noted where it is due at t
 unfoldable pub markedOf : List ℕ → ℕ → ℕ → ℕ → List ℕ → List ℕ
@@ -22,15 +22,15 @@ markedOf T t s c N = cond (eqb (s % 4096) t) (wakeOf T t s c N) N
 
 -- ---- contracts
 
--- the pairs of all trains with the place of a block that goes know of it
-abbrev pub Known : ℕ → List ℕ → Row → Type 0
-Known t M r = endedOf t (r .state) ≡ true → (k : ℕ) → k < 8 → Told (stirIn M) (askedIn M) (spot k (r .state / 4096 % 128)) (r .cover)
+-- the pairs of all trains that meet a block that goes know of it
+abbrev pub Known : List ℕ → ℕ → List ℕ → Row → Type 0
+Known T t M r = endedOf t (r .state) ≡ true → (k e : ℕ) → k < 8 → e < 128 → Meets T e (r .state / 4096 % 128) → Told (stirIn M) (askedIn M) (spot k e) (r .cover)
 
-pub record Leaves (t : ℕ) (l : List Row) (N M : List ℕ) : Type 0 where
+pub record Leaves (T : List ℕ) (t : ℕ) (l : List Row) (N M : List ℕ) : Type 0 where
   pub grows : Grows N M
   pub flagged : Flagged M
   pub asked : (i : ℕ) → askedIn M i ≡ askedIn N i
-  pub known : Every (Known t M) l
+  pub known : Every (Known T t M) l
 
 -- the pair of a row that is due at t knows of it
 abbrev pub Heard : List ℕ → ℕ → List ℕ → Row → Type 0

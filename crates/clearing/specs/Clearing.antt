@@ -15,11 +15,11 @@ use Rattle.rows.specs.Rows.{Row, rowsOf, rowsIn, rowAt, endedOf, sweptOf}
 use Rattle.rows.specs.Written.{rowsIn-more}
 use Rattle.rows.specs.Swept.{Closing, next-row, partOf, part-rows, stay-before}
 use Rattle.quiet.specs.Parts.{Sub, sub-trans}
-use Rattle.asking.specs.Ask.{dueOf}
-use Rattle.waiting.specs.Calm.{waitsOf, spot, spotOf, Settled, Told}
+use Rattle.asking.specs.Ask.{dueOf, nextOf, Mutual}
+use Rattle.waiting.specs.Calm.{waitsOf, spot, spotOf, Settled, Meets, Told}
 use Rattle.waiting.specs.Stirred.{due-waits, calm-swept, calm-later}
-use Rattle.waiting.specs.Notes.{stirIn, askedIn, toldAll, freshOf, Flagged, Grows}
-use Rattle.waiting.specs.Telling.{grows-same, grows-trans, told-keeps, TellsAll, told-all, Freshens, fresh-law}
+use Rattle.waiting.specs.Notes.{stirIn, askedIn, toldLeft, freshOf, Flagged, Grows}
+use Rattle.waiting.specs.Telling.{grows-same, grows-trans, told-keeps, TellsLeft, told-left, Freshens, fresh-law}
 use Rattle.cut.specs.Cut.{fullOf}
 use Rattle.visiting.specs.Visit.{showOf, wakeOf, Ways, Kept, Noted}
 use Rattle.visiting.specs.Settling.{spot-low, show-grows, show-flagged, show-own}
@@ -27,71 +27,72 @@ use Rattle.clearing.specs.Clear.{leftOf, markedOf, Known, Leaves, Heard,
 
 -- ---- blocks that go
 
-pub leaves-none : (t : ℕ) (N : List ℕ) → Flagged N → Leaves t [] N N
-leaves-none t N F = record { grows = grows-same N; flagged = F; asked = λ i. refl; known = tt }
+pub leaves-none : (T : List ℕ) (t : ℕ) (N : List ℕ) → Flagged N → Leaves T t [] N N
+leaves-none T t N F = record { grows = grows-same N; flagged = F; asked = λ i. refl; known = tt }
 
-module _ (t s c : ℕ) (N : List ℕ) (F : Flagged N) where
-  left-one : Grows N (leftOf t s c N) × Flagged (leftOf t s c N) × ((i : ℕ) → askedIn (leftOf t s c N) i ≡ askedIn N i)
-      × (endedOf t s ≡ true → (k : ℕ) → k < 8 → Told (stirIn (leftOf t s c N)) (askedIn (leftOf t s c N)) (spot k (s / 4096 % 128)) c)
+module _ (T : List ℕ) (t s c : ℕ) (N : List ℕ) (F : Flagged N) (pairs : Mutual T) where
+  left-one : Grows N (leftOf T t s c N) × Flagged (leftOf T t s c N) × ((i : ℕ) → askedIn (leftOf T t s c N) i ≡ askedIn N i)
+      × (endedOf t s ≡ true → (k e : ℕ) → k < 8 → e < 128 → Meets T e (s / 4096 % 128) → Told (stirIn (leftOf T t s c N)) (askedIn (leftOf T t s c N)) (spot k e) c)
   unfolding leftOf
   left-one = go (endedOf t s) refl
     where
-      all : TellsAll 8 N (s / 4096 % 128) c (toldAll 8 N (s / 4096 % 128) c)
-      all = told-all 8 N (s / 4096 % 128) c (omega arith) (omega arith) F
+      all : TellsLeft T N (s / 4096 % 128) c (toldLeft T N (s / 4096 % 128) c)
+      all = told-left T N (s / 4096 % 128) c pairs (omega arith) F
 
-      go : (b : Bool) → endedOf t s ≡ b → Grows N (cond b (toldAll 8 N (s / 4096 % 128) c) N) × Flagged (cond b (toldAll 8 N (s / 4096 % 128) c) N)
-          × ((i : ℕ) → askedIn (cond b (toldAll 8 N (s / 4096 % 128) c) N) i ≡ askedIn N i)
-          × (b ≡ true → (k : ℕ) → k < 8 → Told (stirIn (cond b (toldAll 8 N (s / 4096 % 128) c) N)) (askedIn (cond b (toldAll 8 N (s / 4096 % 128) c) N)) (spot k (s / 4096 % 128)) c)
+      go : (b : Bool) → endedOf t s ≡ b → Grows N (cond b (toldLeft T N (s / 4096 % 128) c) N) × Flagged (cond b (toldLeft T N (s / 4096 % 128) c) N)
+          × ((i : ℕ) → askedIn (cond b (toldLeft T N (s / 4096 % 128) c) N) i ≡ askedIn N i)
+          × (b ≡ true → (k e : ℕ) → k < 8 → e < 128 → Meets T e (s / 4096 % 128) → Told (stirIn (cond b (toldLeft T N (s / 4096 % 128) c) N)) (askedIn (cond b (toldLeft T N (s / 4096 % 128) c) N)) (spot k e) c)
       go true e = (all .grows, all .flagged, all .asked, λ z. all .told)
       go false e = (grows-same N, F, λ i. refl, λ z. absurd (false≢true z))
 
-leaves-more : (t i : ℕ) (l N M : List ℕ) → i * 2 + 2 ≤ length l → Leaves t (rowsIn i l) N M
-    → Leaves t (rowsIn (i + 1) l) N (leftOf t (getD l (i * 2) 0) (getD l (i * 2 + 1) 0) M)
-leaves-more t i l N M long h =
-    let one = left-one t (getD l (i * 2) 0) (getD l (i * 2 + 1) 0) M (h .flagged) in
-    let P : List ℕ = leftOf t (getD l (i * 2) 0) (getD l (i * 2 + 1) 0) M in
+leaves-more : (T : List ℕ) (t i : ℕ) (l N M : List ℕ) → Mutual T → i * 2 + 2 ≤ length l → Leaves T t (rowsIn i l) N M
+    → Leaves T t (rowsIn (i + 1) l) N (leftOf T t (getD l (i * 2) 0) (getD l (i * 2 + 1) 0) M)
+leaves-more T t i l N M pairs long h =
+    let one = left-one T t (getD l (i * 2) 0) (getD l (i * 2 + 1) 0) M (h .flagged) pairs in
+    let P : List ℕ = leftOf T t (getD l (i * 2) 0) (getD l (i * 2 + 1) 0) M in
     record {
       grows = grows-trans (h .grows) (one .0);
       flagged = one .1;
       asked = λ j. one .2 j ∙ h .asked j;
-      known = subst (Every (Known t P)) (sym (rowsIn-more i l long))
-          (every-append (Known t P) (rowsIn i l) (rowAt l i ∷ [])
-          (every-more (Known t M) (Known t P) (λ r k e j m. told-keeps (spot j (r .state / 4096 % 128)) (r .cover) (one .0) (one .2) (k e j m)) (rowsIn i l) (h .known))
+      known = subst (Every (Known T t P)) (sym (rowsIn-more i l long))
+          (every-append (Known T t P) (rowsIn i l) (rowAt l i ∷ [])
+          (every-more (Known T t M) (Known T t P) (λ r k z j e small low m. told-keeps (spot j e) (r .cover) (one .0) (one .2) (k z j e small low m)) (rowsIn i l) (h .known))
           (one .3, tt));
     }
 
 -- the row that is read while the list closes up: it goes, or it stays
-module _ {t i : ℕ} {was : List ℕ} {j : ℕ} {rows : List ℕ} (h : Closing t i was j rows) (N M : List ℕ) (long : i * 2 + 2 ≤ length was) (before : Leaves t (rowsIn i was) N M) where
-  left-here : leftOf t (getD rows (i * 2) 0) (getD rows (i * 2 + 1) 0) M ≡ leftOf t (getD was (i * 2) 0) (getD was (i * 2 + 1) 0) M
-  left-here = ap (λ (r : Row). leftOf t (r .state) (r .cover) M) (next-row h long)
+module _ (T : List ℕ) (pairs : Mutual T) {t i : ℕ} {was : List ℕ} {j : ℕ} {rows : List ℕ} (h : Closing t i was j rows) (N M : List ℕ) (long : i * 2 + 2 ≤ length was)
+    (before : Leaves T t (rowsIn i was) N M) where
+  left-here : leftOf T t (getD rows (i * 2) 0) (getD rows (i * 2 + 1) 0) M ≡ leftOf T t (getD was (i * 2) 0) (getD was (i * 2 + 1) 0) M
+  left-here = ap (λ (r : Row). leftOf T t (r .state) (r .cover) M) (next-row h long)
 
-  pub leaves-gone : endedOf t (getD rows (i * 2) 0) ≡ true → Leaves t (rowsIn (i + 1) was) N (toldAll 8 M (getD rows (i * 2) 0 / 4096 % 128) (getD rows (i * 2 + 1) 0))
+  pub leaves-gone : endedOf t (getD rows (i * 2) 0) ≡ true → Leaves T t (rowsIn (i + 1) was) N (toldLeft T M (getD rows (i * 2) 0 / 4096 % 128) (getD rows (i * 2 + 1) 0))
   unfolding leftOf
   leaves-gone e =
-      subst (Leaves t (rowsIn (i + 1) was) N) (sym left-here ∙ ap (λ (b : Bool). cond b (toldAll 8 M (getD rows (i * 2) 0 / 4096 % 128) (getD rows (i * 2 + 1) 0)) M) e)
-      (leaves-more t i was N M long before)
+      subst (Leaves T t (rowsIn (i + 1) was) N) (sym left-here ∙ ap (λ (b : Bool). cond b (toldLeft T M (getD rows (i * 2) 0 / 4096 % 128) (getD rows (i * 2 + 1) 0)) M) e)
+      (leaves-more T t i was N M pairs long before)
 
-  pub leaves-kept : endedOf t (getD rows (i * 2) 0) ≡ false → Leaves t (rowsIn (i + 1) was) N M
+  pub leaves-kept : endedOf t (getD rows (i * 2) 0) ≡ false → Leaves T t (rowsIn (i + 1) was) N M
   unfolding leftOf
   leaves-kept e =
-      subst (Leaves t (rowsIn (i + 1) was) N) (sym left-here ∙ ap (λ (b : Bool). cond b (toldAll 8 M (getD rows (i * 2) 0 / 4096 % 128) (getD rows (i * 2 + 1) 0)) M) e)
-      (leaves-more t i was N M long before)
+      subst (Leaves T t (rowsIn (i + 1) was) N) (sym left-here ∙ ap (λ (b : Bool). cond b (toldLeft T M (getD rows (i * 2) 0 / 4096 % 128) (getD rows (i * 2 + 1) 0)) M) e)
+      (leaves-more T t i was N M pairs long before)
 
 -- rows that do not go have nothing to tell
-pub leaves-before : (t : ℕ) (a b : List Row) (N M : List ℕ) → Every (λ r. endedOf t (r .state) ≡ false) a → Leaves t b N M → Leaves t (a ++ b) N M
-leaves-before t a b N M stay h = record {
+pub leaves-before : (T : List ℕ) (t : ℕ) (a b : List Row) (N M : List ℕ) → Every (λ r. endedOf t (r .state) ≡ false) a → Leaves T t b N M → Leaves T t (a ++ b) N M
+leaves-before T t a b N M stay h = record {
   grows = h .grows;
   flagged = h .flagged;
   asked = h .asked;
-  known = every-append (Known t M) a b (every-more (λ r. endedOf t (r .state) ≡ false) (Known t M) (λ r no yes. absurd (false≢true (sym no ∙ yes))) a stay) (h .known);
+  known = every-append (Known T t M) a b (every-more (λ r. endedOf t (r .state) ≡ false) (Known T t M) (λ r no yes. absurd (false≢true (sym no ∙ yes))) a stay) (h .known);
 }
 
 -- what is told of the rows from the first that goes on is told of all
-pub leaves-all : (t n f : ℕ) (was N M : List ℕ) → n * 2 ≤ length was → f ≤ n → f ≡ firstToGo (λ x. endedOf t (x .state)) (rowsIn n was)
-    → Leaves t (rowsIn (n - f) (partOf f n was)) N M → Leaves t (rowsIn n was) N M
-leaves-all t n f was N M long low e h =
-    subst (λ (l : List Row). Leaves t l N M) (sym (part-rows f n was low long))
-    (leaves-before t (rowsIn f was) (rowsIn (n - f) (partOf f n was)) N M (stay-before t n was long f e) h)
+pub leaves-all : (T : List ℕ) (t n f : ℕ) (was N M : List ℕ) → n * 2 ≤ length was → f ≤ n → f ≡ firstToGo (λ x. endedOf t (x .state)) (rowsIn n was)
+    → Leaves T t (rowsIn (n - f) (partOf f n was)) N M → Leaves T t (rowsIn n was) N M
+leaves-all T t n f was N M long low e h =
+    subst (λ (l : List Row). Leaves T t l N M) (sym (part-rows f n was low long))
+    (leaves-before T t (rowsIn f was) (rowsIn (n - f) (partOf f n was)) N M (stay-before t n was long f e) h)
 
 -- ---- rows that are due
 
@@ -143,6 +144,9 @@ marks-more T t i l N M long ways train h =
 
 -- ---- the start of a minute
 
+next-low : (T : List ℕ) → Ways T → (s : ℕ) → s / 524288 < 8 → nextOf T s < 128
+next-low T ways s h = ways .nexts (s / 4096) (omega arith)
+
 -- where no row shows that it ended in the minute before, none goes
 pub clear-none : (T : List ℕ) (t : ℕ) (N : List ℕ) (l : List Row) → Due T t N l → getD N (4223 + t) 0 ≡ 0 → sweptOf t l ≡ l
 unfolding sweptOf
@@ -158,10 +162,10 @@ clear-none T t N l d z = go l (d .shown) (d .last)
             let i : 2176 + r .state % 4096 ≡ 4223 + t = omega (arith, b .0 e) in
             absurd (a .0 (ap (λ (y : ℕ). getD N y 0) i ∙ z))
 
-pub clear-swept : (T : List ℕ) (t : ℕ) (N M : List ℕ) (l : List Row) → Due T t N l → Leaves t l N M → Due T t M (sweptOf t l)
+pub clear-swept : (T : List ℕ) (t : ℕ) (N M : List ℕ) (l : List Row) → Ways T → Due T t N l → Leaves T t l N M → Due T t M (sweptOf t l)
 unfolding sweptOf
-clear-swept T t N M l d h = record {
-  calm = calm-swept T t t (stirIn N) (askedIn N) (stirIn M) (askedIn M) l (h .grows .stir) (h .grows .asked) (d .calm) (h .known);
+clear-swept T t N M l ways d h = record {
+  calm = calm-swept T t t (stirIn N) (askedIn N) (stirIn M) (askedIn M) l (next-low T ways) (h .grows .stir) (h .grows .asked) (d .calm) (h .known);
   shown = every-more (Shown N) (Shown M) (λ r k z. k (h .grows .minutes (r .state % 4096) (omega arith) z)) (sweptOf t l) (every-keep (Shown N) (λ r. not (endedOf t (r .state))) l (d .shown));
   last = every-keep (λ r. endedOf t (r .state) ≡ true → r .state % 4096 ≡ 2047 + t) (λ r. not (endedOf t (r .state))) l (d .last);
 }
@@ -172,11 +176,11 @@ unfolding sweptOf
 swept-current t l =
     every-more (λ r. not (endedOf t (r .state)) ≡ true) (λ r. endedOf t (r .state) ≡ false) (λ r h. not-true (endedOf t (r .state)) h) (sweptOf t l) (keep-passes (λ r. not (endedOf t (r .state))) l)
 
-module _ (T : List ℕ) (t : ℕ) (N : List ℕ) (l : List Row) (d : Due T t N l) (current : Every (λ r. endedOf t (r .state) ≡ false) l) where
+module _ (T : List ℕ) (t : ℕ) (N : List ℕ) (l : List Row) (ways : Ways T) (d : Due T t N l) (current : Every (λ r. endedOf t (r .state) ≡ false) l) where
   -- where no row shows that it is due now, none is
   pub wake-none : Flagged N → getD N (2176 + t) 0 ≡ 0 → Noted T t N l
   wake-none F z = record {
-    calm = calm-later T t (stirIn N) (askedIn N) (stirIn N) (askedIn N) l (grows-same N .stir) (grows-same N .asked) (d .calm)
+    calm = calm-later T t (stirIn N) (askedIn N) (stirIn N) (askedIn N) l (next-low T ways) (grows-same N .stir) (grows-same N .asked) (d .calm)
         (every-more (Shown N) (Heard T t N) (λ r k x y. absurd (k (ap (λ (i : ℕ). getD N (2176 + i) 0) (shows-due t (r .state) x y) ∙ z))) l (d .shown));
     shown = d .shown;
     current = current;
@@ -184,7 +188,7 @@ module _ (T : List ℕ) (t : ℕ) (N : List ℕ) (l : List Row) (d : Due T t N l
 
   pub wake-marked : (M : List ℕ) → Marks T t l N M → Noted T t M l
   wake-marked M h = record {
-    calm = calm-later T t (stirIn N) (askedIn N) (stirIn M) (askedIn M) l (h .grows .stir) (h .grows .asked) (d .calm) (h .heard);
+    calm = calm-later T t (stirIn N) (askedIn N) (stirIn M) (askedIn M) l (next-low T ways) (h .grows .stir) (h .grows .asked) (d .calm) (h .heard);
     shown = every-more (Shown N) (Shown M) (λ r k z. k (h .grows .minutes (r .state % 4096) (omega arith) z)) l (d .shown);
     current = current;
   }
@@ -210,7 +214,7 @@ noted-due T t N l h = record {
 
 -- ---- in code
 
-module _ (T : List ℕ) (t w : ℕ) (rows N : List ℕ) (kept : Kept w rows) (F : Flagged N) (d : Due T t N (rowsOf (take w rows))) where
+module _ (T : List ℕ) (t w : ℕ) (rows N : List ℕ) (kept : Kept w rows) (F : Flagged N) (ways : Ways T) (d : Due T t N (rowsOf (take w rows))) where
   abbrev l : List Row
   l = rowsOf (take w rows)
 
@@ -219,7 +223,7 @@ module _ (T : List ℕ) (t w : ℕ) (rows N : List ℕ) (kept : Kept w rows) (F 
       let same : sweptOf t l ≡ l = clear-none T t N l d z in
       record { less = omega arith; kept = kept; list = sym same; flagged = F; due = subst (Due T t N) (sym same) d }
 
-  pub clear-done : (m : ℕ) (rows′ M : List ℕ) → length rows′ ≡ length rows → Leaves t (rowsIn (w / 2) rows) N M → m ≤ w / 2 → rowsIn m rows′ ≡ sweptOf t (rowsIn (w / 2) rows)
+  pub clear-done : (m : ℕ) (rows′ M : List ℕ) → length rows′ ≡ length rows → Leaves T t (rowsIn (w / 2) rows) N M → m ≤ w / 2 → rowsIn m rows′ ≡ sweptOf t (rowsIn (w / 2) rows)
       → Cleared T t (rowsOf (take w rows)) w (m * 2) rows′ M
   clear-done m rows′ M same h less swept =
       let e : rowsIn (w / 2) rows ≡ l = ap (λ (y : ℕ). rowsOf (take y rows)) (kept .even) in
@@ -228,7 +232,7 @@ module _ (T : List ℕ) (t w : ℕ) (rows N : List ℕ) (kept : Kept w rows) (F 
         kept = record { within = omega (arith, kept .within); even = omega arith };
         list = swept ∙ ap (sweptOf t) e;
         flagged = h .flagged;
-        due = clear-swept T t N M l d (subst (λ (x : List Row). Leaves t x N M) e h);
+        due = clear-swept T t N M l ways d (subst (λ (x : List Row). Leaves T t x N M) e h);
       }
 
   pub trains-low : Every (λ r. r .state / 524288 < 8) (rowsIn (w / 2) rows)
@@ -239,7 +243,7 @@ module _ (T : List ℕ) (t w : ℕ) (rows N : List ℕ) (kept : Kept w rows) (F 
   pub wake-done : Every (λ r. endedOf t (r .state) ≡ false) (rowsOf (take w rows)) → (M : List ℕ) → Marks T t (rowsIn (w / 2) rows) N M → Noted T t M (rowsOf (take w rows))
   wake-done current M h =
       let e : rowsIn (w / 2) rows ≡ l = ap (λ (y : ℕ). rowsOf (take y rows)) (kept .even) in
-      wake-marked T t N l d current M (subst (λ (x : List Row). Marks T t x N M) e h)
+      wake-marked T t N l ways d current M (subst (λ (x : List Row). Marks T t x N M) e h)
 
 -- ---- the first rows
 

@@ -7,6 +7,7 @@ ghost use Rattle.rules.specs.Sweep.{firstToGo};
 ghost use Rattle.theory_lists.specs.Every.{Every};
 ghost use Rattle.rows.specs.Rows.{rowsOf, rowsIn, endedOf, Swept};
 ghost use Rattle.rows.specs.Swept.{Closing};
+ghost use Rattle.asking.specs.Ask.{Mutual};
 ghost use Rattle.waiting.specs.Notes.{Flagged};
 ghost use Rattle.visiting.specs.Visit.{Kept, Ways, Noted};
 ghost use Rattle.clearing.specs.Clear.{markedOf, Leaves, Marks, Due, Cleared, Enrols};
@@ -26,11 +27,11 @@ fn first_ended(rows: &[u64], n: usize, t: u64) -> usize
     n
 }
 
-// The blocks that end before t go from n rows: each row is read once, in turn, and is told to the pairs of its place if it goes; if it stays, it is written
+// The blocks that end before t go from n rows: each row is read once, in turn, and is told to the pairs that meet it if it goes; if it stays, it is written
 // once, to the next free place. Returns how many rows are left.
-fn close_up(rows: &mut [u64], n: usize, notes: &mut [u64], t: u64) -> usize
-    requires { ⌜ (n * 2 ≤ length (now rows)) × Flagged (now notes) ⌝ }
-    ensures { λ r. ⌜ Closing t n (now (rows .entry)) r (now (rows .exit)) × Leaves t (rowsIn n (now (rows .entry))) (now (notes .entry)) (now (notes .exit)) ⌝ }
+fn close_up(rows: &mut [u64], n: usize, tables: &[u64], notes: &mut [u64], t: u64) -> usize
+    requires { ⌜ (n * 2 ≤ length (now rows)) × Flagged (now notes) × Mutual (now tables) ⌝ }
+    ensures { λ r. ⌜ Closing t n (now (rows .entry)) r (now (rows .exit)) × Leaves (now (tables .entry)) t (rowsIn n (now (rows .entry))) (now (notes .entry)) (now (notes .exit)) ⌝ }
 {
     let mut i = 0;
     let mut j = 0;
@@ -40,7 +41,7 @@ fn close_up(rows: &mut [u64], n: usize, notes: &mut [u64], t: u64) -> usize
         let c = rows[at + 1];
         if rows::ended(s, t) {
             let e = s / 4096 % 128;
-            waiting::tell_all(notes, e as usize, c);
+            waiting::tell_left(tables, notes, e, c);
         } else {
             rows[j * 2] = s;
             rows[j * 2 + 1] = c;
@@ -51,16 +52,16 @@ fn close_up(rows: &mut [u64], n: usize, notes: &mut [u64], t: u64) -> usize
     j
 }
 
-// The blocks that end before t go from the first n rows in one sweep, and the pairs of their places are told. Only the rows from the first of them on are lent
+// The blocks that end before t go from the first n rows in one sweep, and the pairs that meet them are told. Only the rows from the first of them on are lent
 // to be written, and each that stays is written at most once. Returns how many rows are left.
-fn sweep(rows: &mut [u64], n: usize, notes: &mut [u64], t: u64) -> usize
-    requires { ⌜ (n * 2 ≤ length (now rows)) × Flagged (now notes) ⌝ }
-    ensures { λ r. ⌜ Swept t n (now (rows .entry)) r (now (rows .exit)) × Leaves t (rowsIn n (now (rows .entry))) (now (notes .entry)) (now (notes .exit)) ⌝ }
+fn sweep(rows: &mut [u64], n: usize, tables: &[u64], notes: &mut [u64], t: u64) -> usize
+    requires { ⌜ (n * 2 ≤ length (now rows)) × Flagged (now notes) × Mutual (now tables) ⌝ }
+    ensures { λ r. ⌜ Swept t n (now (rows .entry)) r (now (rows .exit)) × Leaves (now (tables .entry)) t (rowsIn n (now (rows .entry))) (now (notes .entry)) (now (notes .exit)) ⌝ }
 {
     let f = first_ended(rows, n, t);
     let from = f * 2;
     let to = n * 2;
-    let left = close_up(&mut rows[from..to], n - f, notes, t);
+    let left = close_up(&mut rows[from..to], n - f, tables, notes, t);
     f + left
 }
 
@@ -91,13 +92,13 @@ fn mark(rows: &[u64], n: usize, tables: &[u64], notes: &mut [u64], t: u64)
 
 // The blocks that end before t go from the first w words, if one shows such an end. Returns how many words are left.
 pub fn clear(rows: &mut [u64], w: usize, notes: &mut [u64], tables: &[u64], t: u64) -> usize
-    requires { ⌜ Kept w (now rows) × Flagged (now notes) × (t < 720) × Due (now tables) t (now notes) (rowsOf (take w (now rows))) ⌝ }
+    requires { ⌜ Kept w (now rows) × Flagged (now notes) × (t < 720) × Ways (now tables) × Due (now tables) t (now notes) (rowsOf (take w (now rows))) ⌝ }
     ensures { λ r. ⌜ Cleared (now (tables .entry)) t (rowsOf (take w (now (rows .entry)))) w r (now (rows .exit)) (now (notes .exit)) ⌝ }
 {
     if notes[4223 + t as usize] == 0 {
         return w;
     }
-    let m = sweep(rows, w / 2, notes, t);
+    let m = sweep(rows, w / 2, tables, notes, t);
     m * 2
 }
 

@@ -16,7 +16,7 @@ use Rattle.rows.specs.Rows.{Row, rowsOf}
 use Rattle.quiet.specs.Parts.{sub-or-left, sub-or-right}
 use Rattle.serving.specs.Pass.{Lent}
 use Rattle.waiting.specs.Calm.{spot, spotOf, Still, Settled}
-use Rattle.waiting.specs.Calm.Still.{stirred, quiet}
+use Rattle.waiting.specs.Calm.Still.{stirred, rests}
 use Rattle.waiting.specs.Notes.{stirIn, askedIn, Flagged}
 use Rattle.visiting.specs.Visit.{Outcome, passOf, read, Kept, Noted, Seen}
 use Rattle.visiting.specs.Unmoved.{unseen, pass-same}
@@ -107,7 +107,7 @@ module _ (N : List ℕ) (e : ℕ) (F : Flagged N) (low : e < 128) where
         where
           go : Still T (stirIn N) l (r .state) (r .cover) → Still T (stirIn (tidiedOf N e)) l (r .state) (r .cover)
           go (stirred x) = stirred (ap (λ (y : ℕ). fullOf 8 (bitAnd (r .cover) y)) (same-stir (spotOf T (r .state))) ∙ x)
-          go (quiet x) = quiet x
+          go (rests x) = rests x
 
 pub tidied-seen : (T : List ℕ) (t e r : ℕ) (o : Outcome) (rows weights N : List ℕ) → e < 128 → Seen T t o r rows weights N → Seen T t o r rows weights (tidiedOf N e)
 tidied-seen T t e r o rows weights N low s = record {

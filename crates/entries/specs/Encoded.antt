@@ -8,12 +8,13 @@ use native.Mathlib.Omega.{arith}
 use lib.ListN.{length, getD}
 use lib.Dec.{ltb, leb, eqb}
 use borrow.Author.Tests.{eq-eqb, ne-eqb, ltb-true, ltb-false}
-use Rattle.rules.specs.Lists.{one, keep, span, below, has}
+use Rattle.rules.specs.Lists.{one, each, keep, span, below, has}
 use Rattle.rules.specs.Files.{Case, Pair}
-use Rattle.rules.specs.Turns.{Place, same, Mark, ahead, headIs, asks, ended, capacity}
+use Rattle.rules.specs.Turns.{Place, same, Mark, ahead, headIs, asks, ended, capacity, paired}
 use Rattle.rules.specs.Turns.Place.{gone}
-use Rattle.rules.specs.Joint.{Cover, whole, Entry, piece, carry, meets}
+use Rattle.rules.specs.Joint.{Cover, whole, Entry, piece, carry, across, meets, meetsAcross}
 use Rattle.theory_sound.specs.Facts.{Sound}
+use Rattle.theory_lists.specs.Each.{each-none}
 use Rattle.theory_lists.specs.Every.{Every, every-each, every-one, every-more}
 use Rattle.theory_lists.specs.Sweeps.{sweepMoves, sweep-map}
 use Rattle.theory_simulation.specs.Parts.{Part, Parts}
@@ -23,17 +24,18 @@ use Rattle.theory_codes.specs.Tables.{headCode, nextCode, tables}
 use Rattle.theory_passes.specs.Passes.{asksFor, piecesAmong}
 use Rattle.theory_passes.specs.Bounds.{Bounded, bounded-train}
 use Rattle.theory_passes.specs.Elements.{ahead-known}
-use Rattle.cut.specs.Cut.{part, carried}
+use Rattle.cut.specs.Cut.{part, carried, crossed, Met, cutBy}
 use Rattle.cut.specs.Packed.{packed, packedPiece, Delays, Sets, Packable}
 use Rattle.cut.specs.Packed.Delays.{none, takes, skips}
-use Rattle.cut.specs.Bridge.{carried-carry}
+use Rattle.cut.specs.Bridge.{cutBy-pieces}
 use Rattle.rows.specs.Rows.{Row, row, endedOf, meetsOf, metOf, sweptOf}
 use Rattle.asking.specs.declared.Job.{Job}
-use Rattle.asking.specs.Ask.{nextOf, asksOf, capOf, metFor}
+use Rattle.asking.specs.Ask.{nextOf, asksOf, capOf, partnerOf, metAcross, metOn, metFor, metAt, Suits}
 use Rattle.theory_codes.specs.Places.{known-coded, coded-small, place-code, code-place, code-test, head-code, place-coded}
 use Rattle.entries.specs.Coded.{bounded-coded, bounded-fit, ended-state, due-state}
 use Rattle.theory_codes.specs.States.{Fit, state-train, state-place, state-way}
-use Rattle.theory_codes.specs.Lookups.{table-next, table-capacity}
+use Rattle.theory_codes.specs.Lookups.{table-next, table-capacity, table-past}
+use Rattle.theory_codes.specs.Partners.{paired-code}
 
 -- an entry as a row
 unfoldable pub rowOf : Entry → Row
@@ -88,9 +90,13 @@ gone-test e h =
     ∙ sym (code-test (placeOf e) 64 (place-coded e) (omega arith))
     ∙ ap (λ (c : ℕ). eqb c 64) (code-place e (omega arith))
 
-free-piece : (c : ℕ) → carried 1 [] 0 c ≡ part c false ∷ []
-unfolding carried
+free-piece : (c : ℕ) → cutBy (record { cap = 1; partner = []; own = [] }) c ≡ part c false ∷ []
+unfolding crossed carried
 free-piece c = refl
+
+across-none : (k : ℕ) (rs : List Row) → metAcross 0 k rs ≡ []
+unfolding metAcross
+across-none k rs = refl
 
 -- ---- asking
 
@@ -146,16 +152,60 @@ module _ (C : Case) (sound : Sound C) (t e k : ℕ) (low : e ≤ 64) where
 
   -- ---- what is met
 
-  met-rows : (l : List Entry) → Every (Good C) l → metOf e k (map rowOf l) ≡ map packed (meets (placeOf e) k l)
-  unfolding metOf meets rowOf
-  met-rows [] h = refl
-  met-rows (r ∷ l) h =
-      ap₂ (λ (z : Bool) (w : List ℕ). one z (packed (r .cover)) ++ w) (meets-row (r .mark) (h .0 .0)) (met-rows l (h .1))
-      ∙ go (not (eqb (r .mark .train) k) && same (r .mark .place) (placeOf e))
+  -- what rows show that pass a test, where it is the test of their marks
+  shown-rows : (f : ℕ → Bool) (g : Mark → Bool) → ((m : Mark) → Bounded C m → f (stateOf m) ≡ g m) → (l : List Entry) → Every (Good C) l
+      → each (λ x. one (f (x .state)) (x .cover)) (map rowOf l) ≡ map packed (each (λ r. one (g (r .mark)) (r .cover)) l)
+  unfolding rowOf
+  shown-rows f g same-test [] h = refl
+  shown-rows f g same-test (r ∷ l) h =
+      ap₂ (λ (z : Bool) (w : List ℕ). one z (packed (r .cover)) ++ w) (same-test (r .mark) (h .0 .0)) (shown-rows f g same-test l (h .1))
+      ∙ go (g (r .mark))
     where
-      go : (b : Bool) → one b (packed (r .cover)) ++ map packed (meets (placeOf e) k l) ≡ map packed (one b (r .cover) ++ meets (placeOf e) k l)
+      go : (b : Bool) → one b (packed (r .cover)) ++ map packed (each (λ r. one (g (r .mark)) (r .cover)) l) ≡ map packed (one b (r .cover) ++ each (λ r. one (g (r .mark)) (r .cover)) l)
       go true = refl
       go false = refl
+
+  met-rows : (l : List Entry) → Every (Good C) l → metOf e k (map rowOf l) ≡ map packed (meets (placeOf e) k l)
+  unfolding metOf meets
+  met-rows l h = shown-rows (meetsOf e k) (λ m. not (eqb (m .train) k) && same (m .place) (placeOf e)) meets-row l h
+
+  -- the partner of e, 0 where it has none
+  abbrev w : ℕ
+  w = partnerOf (tables C) e
+
+  -- another train's state at the partner of e is that of a mark on the other track of the pair
+  across-row : (b : Bool) → eqb w 0 ≡ b → (m : Mark) → Bounded C m → cond b false (meetsOf w k (stateOf m)) ≡ (not (eqb (m .train) k) && paired C (placeOf e) (m .place))
+  unfolding meetsOf
+  across-row b z m bounded =
+      ap₂ (λ (p j : ℕ). cond b false (cond (eqb p w) (not (eqb j k)) false)) (state-place m fit) (state-train m fit)
+      ∙ go b (eqb (codeOf (m .place)) w) (not (eqb (m .train) k))
+      ∙ ap (λ (x : Bool). not (eqb (m .train) k) && cond x false (eqb (codeOf (m .place)) w)) (sym z)
+      ∙ ap (λ (x : Bool). not (eqb (m .train) k) && x) (sym (paired-code C sound e (m .place) low (fit .coded)))
+    where
+      fit : Fit m
+      fit = bounded-fit C sound m bounded
+
+      go : (x y n : Bool) → cond x false (cond y n false) ≡ (n && cond x false y)
+      go true y true = refl
+      go true y false = refl
+      go false true true = refl
+      go false true false = refl
+      go false false true = refl
+      go false false false = refl
+
+  across-rows : (l : List Entry) → Every (Good C) l → metAcross w k (map rowOf l) ≡ map packed (meetsAcross C (placeOf e) k l)
+  unfolding metAcross metOf meetsAcross
+  across-rows l h = go (eqb w 0) refl
+    where
+      far : Mark → Bool
+      far m = not (eqb (m .train) k) && paired C (placeOf e) (m .place)
+
+      nothing : (rs : List Row) → each (λ x. one false (x .cover)) rs ≡ []
+      nothing rs = each-none rs
+
+      go : (b : Bool) → eqb w 0 ≡ b → cond b [] (each (λ x. one (meetsOf w k (x .state)) (x .cover)) (map rowOf l)) ≡ map packed (each (λ r. one (far (r .mark)) (r .cover)) l)
+      go true z = sym (nothing (map rowOf l)) ∙ shown-rows (λ s. false) far (across-row true z) l h
+      go false z = shown-rows (meetsOf w k) far (across-row false z) l h
 
   pub meets-parts : (l : List Entry) → Every (Good C) l → Every (Parts (whole C)) (meets (placeOf e) k l)
   unfolding meets
@@ -163,27 +213,56 @@ module _ (C : Case) (sound : Sound C) (t e k : ℕ) (low : e ≤ 64) where
       every-each (Good C) (Parts (whole C)) (λ r. one (not (eqb (r .mark .train) k) && same (r .mark .place) (placeOf e)) (r .cover))
       (λ r g. every-one (Parts (whole C)) (not (eqb (r .mark .train) k) && same (r .mark .place) (placeOf e)) (r .cover) (λ q. g .1)) l h
 
+  pub far-parts : (l : List Entry) → Every (Good C) l → Every (Parts (whole C)) (meetsAcross C (placeOf e) k l)
+  unfolding meetsAcross
+  far-parts l h =
+      every-each (Good C) (Parts (whole C)) (λ r. one (not (eqb (r .mark .train) k) && paired C (placeOf e) (r .mark .place)) (r .cover))
+      (λ r g. every-one (Parts (whole C)) (not (eqb (r .mark .train) k) && paired C (placeOf e) (r .mark .place)) (r .cover) (λ q. g .1)) l h
+
   -- ---- the pieces of a cover
 
-  pub pieces-row : (q : Job) → q .place ≡ e → q .train ≡ k → q .cap ≡ capOf (tables C) e → (l : List Entry) → Every (Good C) l → (p : Cover) → Parts (whole C) p
-      → carried (q .cap) (metFor q (map rowOf l)) 0 (packed p) ≡ map packedPiece (piecesAmong C (placeOf e) (meets (placeOf e) k l) p)
-  unfolding metFor capOf piecesAmong
-  pieces-row q f g c l h p ps =
-      ap₂ (λ (x : ℕ) (es : List ℕ). carried x es 0 (packed p)) c (ap₂ (λ (x j : ℕ). cond (ltb x 64) (metOf x j (map rowOf l)) []) f g)
+  pub pieces-row : (q : Job) → q .place ≡ e → q .train ≡ k → Suits (tables C) q → (l : List Entry) → Every (Good C) l → (p : Cover) → Parts (whole C) p
+      → cutBy (metFor q (map rowOf l)) (packed p) ≡ map packedPiece (piecesAmong C (placeOf e) (meetsAcross C (placeOf e) k l) (meets (placeOf e) k l) p)
+  unfolding metOn capOf piecesAmong
+  pieces-row q f g suits l h p ps =
+      ap (λ (m : Met). cutBy m (packed p)) met-is
       ∙ go (ltb e 64) refl
-      ∙ ap (λ (z : Bool). map packedPiece (cond z (piece p false ∷ []) (carry (capacity C (placeOf e)) (meets (placeOf e) k l) 0 p))) (sym (gone-test e low))
+      ∙ ap (λ (z : Bool). map packedPiece (cond z (piece p false ∷ []) (across (carry (capacity C (placeOf e)) qs 0) far p))) (sym (gone-test e low))
     where
+      rs : List Row
+      rs = map rowOf l
+
+      qs : List Cover
+      qs = meets (placeOf e) k l
+
+      far : List Cover
+      far = meetsAcross C (placeOf e) k l
+
+      met-is : metFor q rs ≡ metAt (tables C) e k rs
+      met-is =
+          ap₂ (λ (c v : ℕ). record { cap = c; partner = metAcross v (q .train) rs; own = metOn (q .place) (q .train) rs }) (suits .cap) (suits .partner)
+          ∙ ap₂ (λ (x j : ℕ). metAt (tables C) x j rs) f g
+
+      packable : (cs : List Cover) → Every (Parts (whole C)) cs → Every (Packable (length (C .tables))) cs
+      packable cs h = every-more (Parts (whole C)) (Packable (length (C .tables))) (proper-packable C sound) cs h
+
+      -- nobody is met across the way out
+      alone : e ≡ 64 → metAcross w k rs ≡ []
+      alone z = ap (λ (v : ℕ). metAcross v k rs) (table-past C e (omega arith)) ∙ across-none k rs
+
       go : (b : Bool) → ltb e 64 ≡ b
-          → carried (cond b (getD (tables C) (176 + e) 0) 1) (cond b (metOf e k (map rowOf l)) []) 0 (packed p)
-          ≡ map packedPiece (cond (eqb e 64) (piece p false ∷ []) (carry (capacity C (placeOf e)) (meets (placeOf e) k l) 0 p))
+          → cutBy (record { cap = cond b (getD (tables C) (176 + e) 0) 1; partner = metAcross w k rs; own = cond b (metOf e k rs) [] }) (packed p)
+          ≡ map packedPiece (cond (eqb e 64) (piece p false ∷ []) (across (carry (capacity C (placeOf e)) qs 0) far p))
       go true z =
-          ap₂ (λ (x : ℕ) (es : List ℕ). carried x es 0 (packed p)) (table-capacity C e (ltb-true e 64 z)) (met-rows l h)
-          ∙ carried-carry (capacity C (placeOf e)) (meets (placeOf e) k l) (every-more (Parts (whole C)) (Packable (length (C .tables))) (proper-packable C sound) (meets (placeOf e) k l) (meets-parts l h)) 0 p (proper-packable C sound p ps)
-          ∙ ap (λ (y : Bool). map packedPiece (cond y (piece p false ∷ []) (carry (capacity C (placeOf e)) (meets (placeOf e) k l) 0 p))) (sym (ne-eqb e 64 (λ y. omega (arith, ltb-true e 64 z))))
-      go false z = free ∙ ap (λ (y : Bool). map packedPiece (cond y (piece p false ∷ []) (carry (capacity C (placeOf e)) (meets (placeOf e) k l) 0 p))) (sym (eq-eqb e 64 (omega (arith, ltb-false e 64 z))))
-        where
-          free : carried 1 [] 0 (packed p) ≡ map packedPiece (piece p false ∷ [])
-          free = free-piece (packed p)
+          ap₂ (λ (c : ℕ) (os : List ℕ). cutBy (record { cap = c; partner = metAcross w k rs; own = os }) (packed p)) (table-capacity C e (ltb-true e 64 z)) (met-rows l h)
+          ∙ ap (λ (vs : List ℕ). cutBy (record { cap = capacity C (placeOf e); partner = vs; own = map packed qs }) (packed p)) (across-rows l h)
+          ∙ cutBy-pieces (capacity C (placeOf e)) far qs (packable far (far-parts l h)) (packable qs (meets-parts l h)) p (proper-packable C sound p ps)
+          ∙ ap (λ (y : Bool). map packedPiece (cond y (piece p false ∷ []) (across (carry (capacity C (placeOf e)) qs 0) far p))) (sym (ne-eqb e 64 (λ y. omega (arith, ltb-true e 64 z))))
+      go false z =
+          let out : e ≡ 64 = omega (arith, ltb-false e 64 z) in
+          ap (λ (vs : List ℕ). cutBy (record { cap = 1; partner = vs; own = [] }) (packed p)) (alone out)
+          ∙ free-piece (packed p)
+          ∙ ap (λ (y : Bool). map packedPiece (cond y (piece p false ∷ []) (across (carry (capacity C (placeOf e)) qs 0) far p))) (sym (eq-eqb e 64 out))
 
 -- ---- sweeping
 

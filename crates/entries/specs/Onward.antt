@@ -1,4 +1,5 @@
--- The tables of a sound case: planned minutes and codes fit their places, an element is next from one place of a train alone, and each train has a delay.
+-- The tables of a sound case: planned minutes and codes fit their places, an element is next from one place of a train alone, each train has a delay, and partners
+-- are each other's.
 -- All askers of a train for an element stand at the place before it on the train's way. Assumes nothing.
 use mathlib.Core.Path.{_≡_, ap, sym, _∙_}
 use mathlib.Core.Bool.{Bool, true, _&&_}
@@ -20,6 +21,7 @@ use Rattle.theory_passes.specs.Elements.{ahead-known}
 use Rattle.theory_passes.specs.Before.{placeBefore, asker-place}
 use Rattle.visiting.specs.Visit.{Ways}
 use Rattle.theory_codes.specs.Places.{known-coded, place-code, code-place, next-small}
+use Rattle.theory_codes.specs.Partners.{partner-low, first-alone, partner-back}
 use Rattle.theory_codes.specs.Lookups.{table-next, table-stay, table-trains, table-delays}
 
 module _ (C : Case) (sound : Sound C) where
@@ -72,4 +74,5 @@ module _ (C : Case) (sound : Sound C) where
         omega arith);
     delays = λ k h. (let few : k < length (C .trains) = omega (arith, table-trains C) in
         omega (arith, table-delays C k few (omega (arith, sound .few-trains)), some-delay (getD (C .tables) k []) (sound .hundred k few)));
+    pairs = record { alone = first-alone C sound; low = λ e h. partner-low C sound e; back = λ e h some. partner-back C sound e some };
   }

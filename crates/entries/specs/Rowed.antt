@@ -11,7 +11,7 @@ use Rattle.rules.specs.Lists.{one, each, keep}
 use Rattle.rules.specs.Files.{Case}
 use Rattle.rules.specs.Turns.{Place, same, Mark, stands, block, dueAgain, Served, served}
 use Rattle.rules.specs.Turns.Place.{outside, station, track, gone}
-use Rattle.rules.specs.Joint.{Cover, Entry, entry, Piece, meets}
+use Rattle.rules.specs.Joint.{Cover, Entry, entry, Piece, meets, meetsAcross}
 use Rattle.theory_sound.specs.Facts.{Sound}
 use Rattle.theory_lists.specs.Each.{each-append, map-append}
 use Rattle.theory_lists.specs.Every.{Every}
@@ -21,12 +21,12 @@ use Rattle.theory_codes.specs.Tables.{stayOn, tables}
 use Rattle.theory_passes.specs.Passes.{asksFor, piecesAmong, passed, passList}
 use Rattle.theory_passes.specs.Before.{placeBefore, newMarks, arrivalMarks, serveWith, passed-with, asksFor-place}
 use Rattle.theory_passes.specs.Bounds.{Bounded}
-use Rattle.cut.specs.Cut.{carried, heldOf, enteringOf}
+use Rattle.cut.specs.Cut.{Met, cutBy, heldOf, enteringOf}
 use Rattle.cut.specs.Packed.{packed, packedPiece}
 use Rattle.cut.specs.Bridge.{heldCovers, enteringCovers, held-packed, entering-packed}
 use Rattle.rows.specs.Rows.{Row, row, heldRows, enteredRows}
 use Rattle.asking.specs.declared.Job.{Job}
-use Rattle.asking.specs.Ask.{asksOf, askerOf, jobOf, capOf, metFor, askingOf}
+use Rattle.asking.specs.Ask.{asksOf, askerOf, jobOf, metFor, askingOf, Suits}
 use Rattle.serving.specs.Pass.{holdRow, enterRow, coversOf, passedOf}
 use Rattle.visiting.specs.Visit.{someAsks, jobFor}
 use Rattle.theory_codes.specs.Places.{Coded, code-place}
@@ -167,9 +167,9 @@ module _ (C : Case) (sound : Sound C) (t e k : ℕ) (low : e ≤ 64) where
     unfolding jobOf
     job-train = refl
 
-    job-cap : q .cap ≡ capOf (tables C) e
+    job-suits : Suits (tables C) q
     unfolding jobOf
-    job-cap = refl
+    job-suits = record { cap = refl; partner = refl }
 
     -- ---- the pass
 
@@ -177,26 +177,29 @@ module _ (C : Case) (sound : Sound C) (t e k : ℕ) (low : e ≤ 64) where
       abbrev qs : List Cover
       qs = meets (placeOf e) k l
 
-      abbrev es : List ℕ
+      abbrev far : List Cover
+      far = meetsAcross C (placeOf e) k l
+
+      abbrev es : Met
       es = metFor q (map rowOf l)
 
       abbrev ps : Entry → List Piece
-      ps r = piecesAmong C (placeOf e) qs (r .cover)
+      ps r = piecesAmong C (placeOf e) far qs (r .cover)
 
       asking-is : (r : Entry) → Good C r → askingOf (tables C) q (rowOf r) ≡ asksFor C t (placeOf e) k (r .mark)
       unfolding rowOf jobOf
       asking-is r g = asks-row C sound t e k low (r .mark) (g .0)
 
-      carried-is : (r : Entry) → Good C r → carried (q .cap) es 0 (rowOf r .cover) ≡ map packedPiece (ps r)
+      cut-is : (r : Entry) → Good C r → cutBy es (rowOf r .cover) ≡ map packedPiece (ps r)
       unfolding rowOf
-      carried-is r g = pieces-row C sound t e k low q job-place job-train job-cap l good (r .cover) (g .1)
+      cut-is r g = pieces-row C sound t e k low q job-place job-train job-suits l good (r .cover) (g .1)
 
-      hold-is : (r : Entry) → Good C r → holdRow (tables C) q es (rowOf r) ≡ map rowOf (passed C t (placeOf e) k qs r .rows)
+      hold-is : (r : Entry) → Good C r → holdRow (tables C) q es (rowOf r) ≡ map rowOf (passed C t (placeOf e) k far qs r .rows)
       unfolding holdRow serveWith
       hold-is r g =
-          ap₂ (λ (b : Bool) (x : List ℕ). cond b (heldRows (rowOf r .state) x) (rowOf r ∷ [])) (asking-is r g) (ap heldOf (carried-is r g) ∙ held-packed (ps r))
+          ap₂ (λ (b : Bool) (x : List ℕ). cond b (heldRows (rowOf r .state) x) (rowOf r ∷ [])) (asking-is r g) (ap heldOf (cut-is r g) ∙ held-packed (ps r))
           ∙ go (asksFor C t (placeOf e) k (r .mark))
-          ∙ sym (ap (λ (s : Served Entry). map rowOf (s .rows)) (passed-with C sound t (placeOf e) k qs r))
+          ∙ sym (ap (λ (s : Served Entry). map rowOf (s .rows)) (passed-with C sound t (placeOf e) k far qs r))
         where
           go : (b : Bool) → cond b (heldRows (rowOf r .state) (heldCovers (ps r))) (rowOf r ∷ [])
               ≡ map rowOf (cond b (serveWith (r .mark) (newMarks C t (placeOf e) k) (arrivalMarks C t (placeOf e) k) (ps r)) (served (r ∷ []) [] []) .rows)
@@ -207,16 +210,16 @@ module _ (C : Case) (sound : Sound C) (t e k : ℕ) (low : e ≤ 64) where
       pub enter-is : (r : Entry) → Good C r → enterRow (tables C) q es (rowOf r) ≡ cond (asksFor C t (placeOf e) k (r .mark)) (enteringCovers (ps r)) []
       unfolding enterRow
       enter-is r g =
-          ap₂ (λ (b : Bool) (x : List ℕ). cond b x []) (asking-is r g) (ap enteringOf (carried-is r g) ∙ entering-packed (ps r))
+          ap₂ (λ (b : Bool) (x : List ℕ). cond b x []) (asking-is r g) (ap enteringOf (cut-is r g) ∙ entering-packed (ps r))
 
-      added-is : (r : Entry) → Good C r → enteredRows (q .stands) (q .blocks) (q .two) (enterRow (tables C) q es (rowOf r)) ≡ map rowOf (passed C t (placeOf e) k qs r .added)
+      added-is : (r : Entry) → Good C r → enteredRows (q .stands) (q .blocks) (q .two) (enterRow (tables C) q es (rowOf r)) ≡ map rowOf (passed C t (placeOf e) k far qs r .added)
       unfolding serveWith newMarks
       added-is r g =
           ap (enteredRows (q .stands) (q .blocks) (q .two)) (enter-is r g)
           ∙ ap₂ (λ (x y : ℕ). enteredRows x y (q .two) (cond (asksFor C t (placeOf e) k (r .mark)) (enteringCovers (ps r)) [])) stands-is blocks-is
           ∙ ap (λ (z : Bool). enteredRows (stateOf newStanding) (stateOf newBlock) z (cond (asksFor C t (placeOf e) k (r .mark)) (enteringCovers (ps r)) [])) two-is
           ∙ go (asksFor C t (placeOf e) k (r .mark))
-          ∙ sym (ap (λ (s : Served Entry). map rowOf (s .added)) (passed-with C sound t (placeOf e) k qs r))
+          ∙ sym (ap (λ (s : Served Entry). map rowOf (s .added)) (passed-with C sound t (placeOf e) k far qs r))
         where
           b : Bool
           b = not (same (placeBefore C k (placeOf e)) outside)
@@ -226,22 +229,22 @@ module _ (C : Case) (sound : Sound C) (t e k : ℕ) (low : e ≤ 64) where
           go true = entered-rows newStanding newBlock b (keep (λ x. not (x .held)) (ps r))
           go false = entered-none (stateOf newStanding) (stateOf newBlock) b
 
-      holds-are : (m : List Entry) → Every (Good C) m → each (holdRow (tables C) q es) (map rowOf m) ≡ map rowOf (each (λ r. passed C t (placeOf e) k qs r .rows) m)
+      holds-are : (m : List Entry) → Every (Good C) m → each (holdRow (tables C) q es) (map rowOf m) ≡ map rowOf (each (λ r. passed C t (placeOf e) k far qs r .rows) m)
       holds-are [] g = refl
       holds-are (r ∷ m) g =
           ap₂ _++_ (hold-is r (g .0)) (holds-are m (g .1))
-          ∙ sym (map-append rowOf (passed C t (placeOf e) k qs r .rows) (each (λ r. passed C t (placeOf e) k qs r .rows) m))
+          ∙ sym (map-append rowOf (passed C t (placeOf e) k far qs r .rows) (each (λ r. passed C t (placeOf e) k far qs r .rows) m))
 
       adds-are : (m : List Entry) → Every (Good C) m
-          → enteredRows (q .stands) (q .blocks) (q .two) (each (enterRow (tables C) q es) (map rowOf m)) ≡ map rowOf (each (λ r. passed C t (placeOf e) k qs r .added) m)
+          → enteredRows (q .stands) (q .blocks) (q .two) (each (enterRow (tables C) q es) (map rowOf m)) ≡ map rowOf (each (λ r. passed C t (placeOf e) k far qs r .added) m)
       adds-are [] g = entered-none (q .stands) (q .blocks) (q .two)
       adds-are (r ∷ m) g =
           entered-append (q .stands) (q .blocks) (q .two) (enterRow (tables C) q es (rowOf r)) (each (enterRow (tables C) q es) (map rowOf m))
           ∙ ap₂ _++_ (added-is r (g .0)) (adds-are m (g .1))
-          ∙ sym (map-append rowOf (passed C t (placeOf e) k qs r .added) (each (λ r. passed C t (placeOf e) k qs r .added) m))
+          ∙ sym (map-append rowOf (passed C t (placeOf e) k far qs r .added) (each (λ r. passed C t (placeOf e) k far qs r .added) m))
 
       pub passed-is : passedOf (tables C) q (map rowOf l) ≡ map rowOf (passList C t (placeOf e) k l)
       unfolding passedOf coversOf passList
       passed-is =
           ap₂ _++_ (holds-are l good) (adds-are l good)
-          ∙ sym (map-append rowOf (each (λ r. passed C t (placeOf e) k qs r .rows) l) (each (λ r. passed C t (placeOf e) k qs r .added) l))
+          ∙ sym (map-append rowOf (each (λ r. passed C t (placeOf e) k far qs r .rows) l) (each (λ r. passed C t (placeOf e) k far qs r .added) l))

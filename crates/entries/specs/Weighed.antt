@@ -15,13 +15,13 @@ use Rattle.rules.specs.Files.{Stop, Case, lastOf}
 use Rattle.rules.specs.Turns.{Place, same, capacity, lastStation, State, Arrival}
 use Rattle.rules.specs.Turns.Place.{gone}
 use Rattle.rules.specs.Single.{pairAt}
-use Rattle.rules.specs.Joint.{Cover, Entry, Piece, piece, carry, meets, weight, weightAt, whole}
+use Rattle.rules.specs.Joint.{Cover, Entry, Piece, piece, carry, across, meets, meetsAcross, weight, weightAt, whole}
 use Rattle.rules.specs.Calls.{setImage}
 use Rattle.theory_sound.specs.Facts.{Sound}
 use Rattle.theory_sound.specs.Trains.{anywhere}
 use Rattle.theory_lists.specs.Every.{Every, every-more}
 use Rattle.theory_lists.specs.Sums.{sum-append, sum-every}
-use Rattle.theory_simulation.specs.Parts.{Parts, carry-parts}
+use Rattle.theory_simulation.specs.Parts.{Parts, carry-parts, across-parts}
 use Rattle.theory_weights.specs.Choices.{product, weight-product}
 use Rattle.theory_codes.specs.Codes.{codeOf, placeOf}
 use Rattle.theory_codes.specs.Tables.{tables}
@@ -39,21 +39,21 @@ use Rattle.visiting.specs.Visit.{arrivedOf, jobFor}
 use Rattle.visiting.specs.Arriving.{arrived-any}
 use Rattle.theory_codes.specs.Places.{Coded, code-place, code-test, place-code, place-coded}
 use Rattle.theory_codes.specs.Lookups.{table-weight, table-last, table-trains}
-use Rattle.entries.specs.Encoded.{rowOf, Good, proper-packable, meets-parts}
+use Rattle.entries.specs.Encoded.{rowOf, Good, proper-packable, meets-parts, far-parts}
 use Rattle.entries.specs.Rowed.{Asker, enter-is}
 
 mod-sum : (a b : ℕ) → (a % 2 ^ 64 + b % 2 ^ 64) % 2 ^ 64 ≡ (a + b) % 2 ^ 64
 mod-sum a b = omega arith
 
 -- every piece of a part is a part
-among-parts : (C : Case) (e : Place) (qs : List Cover) → Every (Parts (whole C)) qs → (p : Cover) → Parts (whole C) p
-    → Every (λ x. Parts (whole C) (x .cover)) (piecesAmong C e qs p)
+among-parts : (C : Case) (e : Place) (far qs : List Cover) → Every (Parts (whole C)) far → Every (Parts (whole C)) qs → (p : Cover) → Parts (whole C) p
+    → Every (λ x. Parts (whole C) (x .cover)) (piecesAmong C e far qs p)
 unfolding piecesAmong
-among-parts C e qs h p g = go (same e gone)
+among-parts C e far qs f h p g = go (same e gone)
   where
-    go : (b : Bool) → Every (λ x. Parts (whole C) (x .cover)) (cond b (piece p false ∷ []) (carry (capacity C e) qs 0 p))
+    go : (b : Bool) → Every (λ x. Parts (whole C) (x .cover)) (cond b (piece p false ∷ []) (across (carry (capacity C e) qs 0) far p))
     go true = (g, tt)
-    go false = carry-parts (whole C) (capacity C e) qs h 0 p g
+    go false = across-parts (whole C) (carry (capacity C e) qs 0) (carry-parts (whole C) (capacity C e) qs h 0) far f p g
 
 -- ---- a set
 
@@ -144,8 +144,11 @@ module _ (C : Case) where
       abbrev qs : List Cover
       qs = meets (placeOf e) k l
 
-      pieces-parts : (r : Entry) → Good C r → Every (λ x. Parts (whole C) (x .cover)) (piecesAmong C (placeOf e) qs (r .cover))
-      pieces-parts r g = among-parts C (placeOf e) qs (meets-parts C sound t e k low l good) (r .cover) (g .1)
+      abbrev far : List Cover
+      far = meetsAcross C (placeOf e) k l
+
+      pieces-parts : (r : Entry) → Good C r → Every (λ x. Parts (whole C) (x .cover)) (piecesAmong C (placeOf e) far qs (r .cover))
+      pieces-parts r g = among-parts C (placeOf e) far qs (far-parts C sound t e k low l good) (meets-parts C sound t e k low l good) (r .cover) (g .1)
 
       entering-weight : (ps : List Piece) → Every (λ x. Parts (whole C) (x .cover)) ps
           → sum (weightOf (tables C)) (enteringCovers ps) ≡ sum (λ x. weight C (x .cover)) (keep (λ x. not (x .held)) ps)
@@ -160,7 +163,7 @@ module _ (C : Case) where
 
       covers-weight : (m : List Entry) → Every (Good C) m
           → sum (weightOf (tables C)) (each (enterRow (tables C) q (metFor q (map rowOf l))) (map rowOf m))
-          ≡ sum (λ r. cond (asksFor C t (placeOf e) k (r .mark)) (enteringWeight C (placeOf e) qs (r .cover)) 0) m
+          ≡ sum (λ r. cond (asksFor C t (placeOf e) k (r .mark)) (enteringWeight C (placeOf e) far qs (r .cover)) 0) m
       unfolding enteringWeight
       covers-weight [] h = refl
       covers-weight (r ∷ m) h =
@@ -169,9 +172,9 @@ module _ (C : Case) where
           (ap (sum (weightOf (tables C))) (enter-is C sound t e k low few l a good r (h .0)) ∙ go (asksFor C t (placeOf e) k (r .mark)))
           (covers-weight m (h .1))
         where
-          go : (b : Bool) → sum (weightOf (tables C)) (cond b (enteringCovers (piecesAmong C (placeOf e) qs (r .cover))) [])
-              ≡ cond b (sum (λ x. weight C (x .cover)) (keep (λ x. not (x .held)) (piecesAmong C (placeOf e) qs (r .cover)))) 0
-          go true = entering-weight (piecesAmong C (placeOf e) qs (r .cover)) (pieces-parts r (h .0))
+          go : (b : Bool) → sum (weightOf (tables C)) (cond b (enteringCovers (piecesAmong C (placeOf e) far qs (r .cover))) [])
+              ≡ cond b (sum (λ x. weight C (x .cover)) (keep (λ x. not (x .held)) (piecesAmong C (placeOf e) far qs (r .cover)))) 0
+          go true = entering-weight (piecesAmong C (placeOf e) far qs (r .cover)) (pieces-parts r (h .0))
           go false = refl
 
       -- the weights after the pass
@@ -192,7 +195,7 @@ module _ (C : Case) where
           new = set v (k * 720 + t) ((getD v (k * 720 + t) 0 + W % 2 ^ 64) % 2 ^ 64)
 
           go : (b : Bool) → cond b new v
-              ≡ cond b (set v (k * 720 + t) ((getD v (k * 720 + t) 0 + cond b (sum (λ r. cond (asksFor C t (placeOf e) k (r .mark)) (enteringWeight C (placeOf e) qs (r .cover)) 0) l) 0 % 2 ^ 64) % 2 ^ 64)) v
+              ≡ cond b (set v (k * 720 + t) ((getD v (k * 720 + t) 0 + cond b (sum (λ r. cond (asksFor C t (placeOf e) k (r .mark)) (enteringWeight C (placeOf e) far qs (r .cover)) 0) l) 0 % 2 ^ 64) % 2 ^ 64)) v
           go true = ap (λ (w : ℕ). set v (k * 720 + t) ((getD v (k * 720 + t) 0 + w % 2 ^ 64) % 2 ^ 64)) (covers-weight l good)
           go false = refl
 
@@ -245,5 +248,5 @@ module _ (C : Case) (sound : Sound C) (t e k : ℕ) (v : List ℕ) (s : State En
           ∙ ap (λ (x : ℕ). (weightAt C (s .arrived) j u + x) % 2 ^ 64) (sym (at (eqb k j && eqb t u)))
         where
           at : (b : Bool) → cond b W 0 ≡ 0
-          at true = ap (λ (b : Bool). cond b (sum (λ r. cond (asksFor C t (placeOf e) k (r .mark)) (enteringWeight C (placeOf e) (meets (placeOf e) k (s .list)) (r .cover)) 0) (s .list)) 0) z
+          at true = ap (λ (b : Bool). cond b (sum (λ r. cond (asksFor C t (placeOf e) k (r .mark)) (enteringWeight C (placeOf e) (meetsAcross C (placeOf e) k (s .list)) (meets (placeOf e) k (s .list)) (r .cover)) 0) (s .list)) 0) z
           at false = refl

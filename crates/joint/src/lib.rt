@@ -72,7 +72,7 @@ pub fn run(tables: &[u64], rows: &mut [u64], weights: &mut [u64], stop: u64) -> 
     ensures { λ r. ⌜ Answers (now (tables .entry)) stop (length (now (weights .entry))) r (now (rows .exit)) (now (weights .exit)) ⌝ }
 {
     let mut tmp = [0u64; 2050];
-    let mut met = [0u64; 1025];
+    let mut met = [0u64; 2050];
     let mut held = [0u64; 1025];
     let mut entering = [0u64; 1025];
     let mut notes = [0u64; 6272];

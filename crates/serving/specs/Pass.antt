@@ -3,12 +3,12 @@ use mathlib.Core.Path.{_≡_}
 use mathlib.Core.Bool.{Bool, cond}
 use mathlib.Core.List.{List, [], _∷_, _++_}
 use Prim.Native.Nat.{ℕ, _+_, _*_, _/_, min, _≤_, _<_}
-use lib.ListN.{length, take, getD}
+use lib.ListN.{length, take, drop, getD}
 use lib.Seq.{sets}
 use lib.Dec.{eqb}
 use lib.Bits.{bitOr}
 use Rattle.rules.specs.Lists.{each}
-use Rattle.cut.specs.Cut.{carried, heldOf, enteringOf}
+use Rattle.cut.specs.Cut.{Met, cutBy, heldOf, enteringOf}
 use Rattle.theory_lists.specs.Writes.{Put}
 use Rattle.rows.specs.Rows.{Row, words, heldRows, enteredRows}
 use Rattle.quiet.specs.Parts.{Sub}
@@ -19,26 +19,26 @@ use Rattle.serving.specs.declared.Ends.{Ends}
 -- ---- the pass
 
 -- what becomes of a row in its place, where the test says which rows are served
-abbrev pub holdBy : (Row → Bool) → ℕ → List ℕ → Row → List Row
-holdBy test cap es r = cond (test r) (heldRows (r .state) (heldOf (carried cap es 0 (r .cover)))) (r ∷ [])
+abbrev pub holdBy : (Row → Bool) → Met → Row → List Row
+holdBy test m r = cond (test r) (heldRows (r .state) (heldOf (cutBy m (r .cover)))) (r ∷ [])
 
 -- the covers of a row that enter
-abbrev pub enterBy : (Row → Bool) → ℕ → List ℕ → Row → List ℕ
-enterBy test cap es r = cond (test r) (enteringOf (carried cap es 0 (r .cover))) []
+abbrev pub enterBy : (Row → Bool) → Met → Row → List ℕ
+enterBy test m r = cond (test r) (enteringOf (cutBy m (r .cover))) []
 
 -- all covers that enter, and the rows after the pass: held pieces in their row's place, and what entered at the end
 abbrev pub coversBy : (Row → Bool) → Job → List Row → List ℕ
-coversBy test q l = each (enterBy test (q .cap) (metFor q l)) l
+coversBy test q l = each (enterBy test (metFor q l)) l
 
 abbrev pub passBy : (Row → Bool) → Job → List Row → List Row
-passBy test q l = each (holdBy test (q .cap) (metFor q l)) l ++ enteredRows (q .stands) (q .blocks) (q .two) (coversBy test q l)
+passBy test q l = each (holdBy test (metFor q l)) l ++ enteredRows (q .stands) (q .blocks) (q .two) (coversBy test q l)
 
 -- the same where each row that asks is served
-unfoldable pub holdRow : List ℕ → Job → List ℕ → Row → List Row
-holdRow T q es r = holdBy (askingOf T q) (q .cap) es r
+unfoldable pub holdRow : List ℕ → Job → Met → Row → List Row
+holdRow T q m r = holdBy (askingOf T q) m r
 
-unfoldable pub enterRow : List ℕ → Job → List ℕ → Row → List ℕ
-enterRow T q es r = enterBy (askingOf T q) (q .cap) es r
+unfoldable pub enterRow : List ℕ → Job → Met → Row → List ℕ
+enterRow T q m r = enterBy (askingOf T q) m r
 
 -- all covers that enter
 unfoldable pub coversOf : List ℕ → Job → List Row → List ℕ
@@ -49,11 +49,11 @@ unfoldable pub passedOf : List ℕ → Job → List Row → List Row
 passedOf T q rs = each (holdRow T q (metFor q rs)) rs ++ enteredRows (q .stands) (q .blocks) (q .two) (coversOf T q rs)
 
 -- the same where only rows that share a choice with u are served
-abbrev pub holdStirred : List ℕ → Job → ℕ → List ℕ → Row → List Row
-holdStirred T q u es r = holdBy (stirredOf T q u) (q .cap) es r
+abbrev pub holdStirred : List ℕ → Job → ℕ → Met → Row → List Row
+holdStirred T q u m r = holdBy (stirredOf T q u) m r
 
-abbrev pub enterStirred : List ℕ → Job → ℕ → List ℕ → Row → List ℕ
-enterStirred T q u es r = enterBy (stirredOf T q u) (q .cap) es r
+abbrev pub enterStirred : List ℕ → Job → ℕ → Met → Row → List ℕ
+enterStirred T q u m r = enterBy (stirredOf T q u) m r
 
 unfoldable pub stirredCovers : List ℕ → Job → ℕ → List Row → List ℕ
 stirredCovers T q u l = each (enterStirred T q u (metFor q l)) l
@@ -62,6 +62,10 @@ unfoldable pub stirredPass : List ℕ → Job → ℕ → List Row → List Row
 stirredPass T q u l = each (holdStirred T q u (metFor q l)) l ++ enteredRows (q .stands) (q .blocks) (q .two) (stirredCovers T q u l)
 
 -- ---- contracts
+
+-- what is met, as it stands in lent words: the partner's covers are the first of them
+abbrev pub metIn : ℕ → ℕ → List ℕ → Met
+metIn cap first met = record { cap = cap; partner = take first met; own = drop first met }
 
 -- all that moved, where m moved before: with the cover c, unless its only piece is held and is c itself; h pieces are held, the first of them x
 unfoldable pub movedOf : ℕ → ℕ → ℕ → ℕ → ℕ → ℕ
@@ -100,7 +104,7 @@ pub record Space (rows tmp met held entering : List ℕ) : Type 0 where
   pub some : 2 ≤ length rows
   pub even : length rows / 2 * 2 ≡ length rows
   pub tmp-long : length rows ≤ length tmp
-  pub met-long : length rows ≤ length met * 2
+  pub met-long : length rows ≤ length met
   pub held-long : length rows ≤ length held * 2
   pub entering-long : length rows ≤ length entering * 2
 
@@ -108,6 +112,6 @@ pub record Space (rows tmp met held entering : List ℕ) : Type 0 where
 pub record Lent (T rows tmp met held entering : List ℕ) : Type 0 where
   pub rows-are : length rows ≡ getD T 3 0 * 2 + 2
   pub tmp-long : length rows ≤ length tmp
-  pub met-long : length rows ≤ length met * 2
+  pub met-long : length rows ≤ length met
   pub held-long : length rows ≤ length held * 2
   pub entering-long : length rows ≤ length entering * 2

@@ -5,11 +5,11 @@ ghost use Prim.Native.Nat.{_*_, _/_, _≤_, _<_};
 ghost use lib.ListN.{length, getD};
 ghost use Rattle.rules.specs.Lists.{each};
 ghost use Rattle.theory_lists.specs.Every.{Every};
-ghost use Rattle.cut.specs.Cut.{carried, heldOf, enteringOf};
+ghost use Rattle.cut.specs.Cut.{cutBy, Room, fitting, Wrote, heldOf, enteringOf};
 ghost use Rattle.rows.specs.Rows.{row, words, rowsIn, heldRows};
 ghost use Rattle.quiet.specs.Parts.{Sub};
 ghost use Rattle.asking.specs.Ask.{metFor, stirsOf};
-ghost use Rattle.serving.specs.Pass.{holdBy, enterBy, coversBy, passBy, movedOf, Went, Two, Passed, Space};
+ghost use Rattle.serving.specs.Pass.{holdBy, enterBy, coversBy, passBy, metIn, movedOf, Went, Two, Passed, Space};
 
 // The place after the last word of the rows, how many covers have entered, and all that moved: the covers of the rows that were cut or entered.
 pub struct Ends {
@@ -35,9 +35,32 @@ fn moved_with(held: &[u64], h: usize, entered: usize, c: u64, m: u64) -> u64
     m
 }
 
-// A row that asks: its held pieces are written as rows of its state, and those that enter are put to the others.
+// The pieces of a row that asks with the cover c; of what it meets the `first` covers are the partner's. Mostly there are none, and then there is nothing to
+// cross.
+fn pieces(
+    met: &[u64],
+    first: usize,
+    held: &mut [u64],
+    entering: &mut [u64],
+    room: usize,
+    cap: usize,
+    c: u64,
+    w: cut::Pieces,
+) -> cut::Pieces
+    requires { ⌜ Room room w (now held) (now entering) × (first ≤ length (now met)) ⌝ }
+    ensures { λ r. ⌜ Wrote w (now (held .entry)) (now (entering .entry)) (fitting room w (cutBy (metIn cap first (now (met .entry))) c)) r (now (held .exit)) (now (entering .exit)) ⌝ }
+{
+    if first == 0 {
+        return cut::carry(met, held, entering, room, cap, 0, 0, c, w);
+    }
+    cut::across(met, held, entering, room, cap, first, 0, c, w)
+}
+
+// A row that asks; of what it meets the `first` covers are the partner's. Its held pieces are written as rows of its state, and those that enter are put to
+// the others.
 fn serve(
     met: &[u64],
+    first: usize,
     held: &mut [u64],
     entering: &mut [u64],
     rows: &mut [u64],
@@ -48,16 +71,16 @@ fn serve(
     c: u64,
     q: asking::Job,
 ) -> Ends
-    requires { ⌜ (2 ≤ length (now rows)) × (length (now rows) / 2 * 2 ≡ length (now rows)) × (length (now rows) ≤ length (now held) * 2) × (length (now rows) ≤ length (now entering) * 2) × (d ≤ length (now rows)) × (a * 2 ≤ length (now rows)) ⌝ }
-    ensures { λ r. ⌜ Two (now (rows .entry)) d (words (heldRows s (heldOf (carried (q .cap) (now (met .entry)) 0 c)))) (r .place) (now (rows .exit)) (now (entering .entry)) a (enteringOf (carried (q .cap) (now (met .entry)) 0 c)) (r .entering) (now (entering .exit)) ⌝ }
-    ensures { λ r. ⌜ Sub m (r .moved) × Went (heldRows s (heldOf (carried (q .cap) (now (met .entry)) 0 c))) (enteringOf (carried (q .cap) (now (met .entry)) 0 c)) (r .moved) (row s c) ⌝ }
+    requires { ⌜ (2 ≤ length (now rows)) × (length (now rows) / 2 * 2 ≡ length (now rows)) × (length (now rows) ≤ length (now held) * 2) × (length (now rows) ≤ length (now entering) * 2) × (d ≤ length (now rows)) × (a * 2 ≤ length (now rows)) × (first ≤ length (now met)) ⌝ }
+    ensures { λ r. ⌜ Two (now (rows .entry)) d (words (heldRows s (heldOf (cutBy (metIn (q .cap) first (now (met .entry))) c)))) (r .place) (now (rows .exit)) (now (entering .entry)) a (enteringOf (cutBy (metIn (q .cap) first (now (met .entry))) c)) (r .entering) (now (entering .exit)) ⌝ }
+    ensures { λ r. ⌜ Sub m (r .moved) × Went (heldRows s (heldOf (cutBy (metIn (q .cap) first (now (met .entry))) c))) (enteringOf (cutBy (metIn (q .cap) first (now (met .entry))) c)) (r .moved) (row s c) ⌝ }
 {
     let room = rows.len() / 2;
     let w = cut::Pieces {
         held: 0,
         entering: a,
     };
-    let z = cut::carry(met, held, entering, room, q.cap, 0, 0, c, w);
+    let z = pieces(met, first, held, entering, room, q.cap, c, w);
     if z.held + z.entering == room {
         return Ends {
             place: rows.len(),
@@ -79,6 +102,7 @@ fn walk(
     src: &[u64],
     n: usize,
     met: &[u64],
+    first: usize,
     held: &mut [u64],
     entering: &mut [u64],
     rows: &mut [u64],
@@ -87,9 +111,9 @@ fn walk(
     u: u64,
     q: asking::Job,
 ) -> Ends
-    requires { ⌜ (n * 2 ≤ length (now src)) × (2 ≤ length (now rows)) × (length (now rows) / 2 * 2 ≡ length (now rows)) × (length (now rows) ≤ length (now held) * 2) × (length (now rows) ≤ length (now entering) * 2) × (d < length (now rows)) × (key < 4294967296) × (q .minute < 2048) ⌝ }
-    ensures { λ r. ⌜ Two (now (rows .entry)) d (words (each (holdBy (stirsOf key (q .minute) u) (q .cap) (now (met .entry))) (rowsIn n (now (src .entry))))) (r .place) (now (rows .exit)) (now (entering .entry)) 0 (each (enterBy (stirsOf key (q .minute) u) (q .cap) (now (met .entry))) (rowsIn n (now (src .entry)))) (r .entering) (now (entering .exit)) ⌝ }
-    ensures { λ r. ⌜ Every (λ x. Went (holdBy (stirsOf key (q .minute) u) (q .cap) (now (met .entry)) x) (enterBy (stirsOf key (q .minute) u) (q .cap) (now (met .entry)) x) (r .moved) x) (rowsIn n (now (src .entry))) ⌝ }
+    requires { ⌜ (n * 2 ≤ length (now src)) × (2 ≤ length (now rows)) × (length (now rows) / 2 * 2 ≡ length (now rows)) × (length (now rows) ≤ length (now held) * 2) × (length (now rows) ≤ length (now entering) * 2) × (d < length (now rows)) × (key < 4294967296) × (q .minute < 2048) × (first ≤ length (now met)) ⌝ }
+    ensures { λ r. ⌜ Two (now (rows .entry)) d (words (each (holdBy (stirsOf key (q .minute) u) (metIn (q .cap) first (now (met .entry)))) (rowsIn n (now (src .entry))))) (r .place) (now (rows .exit)) (now (entering .entry)) 0 (each (enterBy (stirsOf key (q .minute) u) (metIn (q .cap) first (now (met .entry)))) (rowsIn n (now (src .entry)))) (r .entering) (now (entering .exit)) ⌝ }
+    ensures { λ r. ⌜ Every (λ x. Went (holdBy (stirsOf key (q .minute) u) (metIn (q .cap) first (now (met .entry))) x) (enterBy (stirsOf key (q .minute) u) (metIn (q .cap) first (now (met .entry))) x) (r .moved) x) (rowsIn n (now (src .entry))) ⌝ }
 {
     let mut i = 0;
     let mut at = d;
@@ -107,7 +131,7 @@ fn walk(
         }
         let s = src[j * 2];
         let c = src[j * 2 + 1];
-        let z = serve(met, held, entering, rows, kept, a, m, s, c, q);
+        let z = serve(met, first, held, entering, rows, kept, a, m, s, c, q);
         at = z.place;
         a = z.entering;
         m = z.moved;
@@ -137,12 +161,24 @@ pub fn pass(
     requires { ⌜ Space (now rows) (now tmp) (now met) (now held) (now entering) ⌝ }
     requires { ⌜ (n * 2 < length (now rows)) × (i ≤ n) × (key < 4294967296) × (q .minute < 2048) × Every (λ x. stirsOf key (q .minute) u x ≡ false) (rowsIn i (now rows)) ⌝ }
     ensures { λ r. ⌜ Passed (passBy (stirsOf key (q .minute) u) q (rowsIn n (now (rows .entry)))) (coversBy (stirsOf key (q .minute) u) q (rowsIn n (now (rows .entry)))) r (now (rows .exit)) (now (entering .exit)) ⌝ }
-    ensures { λ r. ⌜ Every (λ x. Went (holdBy (stirsOf key (q .minute) u) (q .cap) (metFor q (rowsIn n (now (rows .entry)))) x) (enterBy (stirsOf key (q .minute) u) (q .cap) (metFor q (rowsIn n (now (rows .entry)))) x) (r .moved) x) (rowsIn n (now (rows .entry))) ⌝ }
+    ensures { λ r. ⌜ Every (λ x. Went (holdBy (stirsOf key (q .minute) u) (metFor q (rowsIn n (now (rows .entry)))) x) (enterBy (stirsOf key (q .minute) u) (metFor q (rowsIn n (now (rows .entry)))) x) (r .moved) x) (rowsIn n (now (rows .entry))) ⌝ }
 {
     let m = asking::meet(rows, n, q, met);
     let from = i * 2;
     let _x = rows::copy(rows, from, n * 2, tmp, 0);
-    let z = walk(tmp, n - i, &met[..m], held, entering, rows, from, key, u, q);
+    let z = walk(
+        tmp,
+        n - i,
+        &met[..m.all],
+        m.partner,
+        held,
+        entering,
+        rows,
+        from,
+        key,
+        u,
+        q,
+    );
     let r = rows::enter(
         entering,
         z.entering,

@@ -17,8 +17,8 @@ use Rattle.asking.specs.Ask.{dueOf, asksOf, jobOf, Within}
 use Rattle.asking.specs.Asking.{asking}
 use Rattle.waiting.specs.Calm.{waitsOf, spot, spotOf}
 use Rattle.waiting.specs.Stirred.{due-waits, Spread, Ready}
-use Rattle.waiting.specs.Notes.{stirIn, askedIn, toldAll, freshOf, Flagged, Grows}
-use Rattle.waiting.specs.Telling.{grows-same, grows-trans, grows-minute, told-keeps, TellsAll, told-all, Freshens, fresh-law}
+use Rattle.waiting.specs.Notes.{stirIn, askedIn, toldAcross, toldLeft, freshOf, Flagged, Grows}
+use Rattle.waiting.specs.Telling.{grows-same, grows-trans, grows-minute, told-keeps, TellsAcross, told-across, TellsLeft, told-left, Freshens, fresh-law}
 use Rattle.visiting.specs.Visit.{showOf, wakeOf, settledOf, Ways}
 
 -- ---- the pair of a state
@@ -94,13 +94,16 @@ module _ (T : List ℕ) (q : Job) (from moved : ℕ) (N : List ℕ) (F : Flagged
   N₂ = wakeOf T (q .minute) (q .stands) moved N₁
 
   abbrev N₃ : List ℕ
-  N₃ = toldAll 8 N₂ from moved
+  N₃ = toldLeft T N₂ from moved
 
   abbrev N₄ : List ℕ
-  N₄ = showOf N₃ (q .stands)
+  N₄ = toldAcross T N₃ (q .place) moved
 
   abbrev N₅ : List ℕ
-  N₅ = showOf N₄ (q .blocks)
+  N₅ = showOf N₄ (q .stands)
+
+  abbrev N₆ : List ℕ
+  N₆ = showOf N₅ (q .blocks)
 
   F₁ : Flagged N₁
   F₁ = reset-flagged N own (omega arith) F
@@ -119,39 +122,52 @@ module _ (T : List ℕ) (q : Job) (from moved : ℕ) (N : List ℕ) (F : Flagged
       go true e = (fresh .grows, fresh .flagged, λ z. (fresh .asked, fresh .stir))
       go false e = (grows-same N₁, F₁, λ z. absurd (false≢true z))
 
-  told₃ : TellsAll 8 N₂ from moved N₃
-  told₃ = told-all 8 N₂ from moved (omega arith) low (woken .1)
+  told₃ : TellsLeft T N₂ from moved N₃
+  told₃ = told-left T N₂ from moved (ways .pairs) low (woken .1)
 
-  G₃ : Grows N₃ N₅
-  G₃ = grows-trans (show-grows N₃ (q .stands) (told₃ .flagged)) (show-grows N₄ (q .blocks) (show-flagged N₃ (q .stands) (told₃ .flagged)))
+  told₄ : TellsAcross T N₃ (q .place) moved N₄
+  told₄ = told-across T N₃ (q .place) moved (ways .pairs) place (told₃ .flagged)
 
-  G₂ : Grows N₂ N₅
+  F₅ : Flagged N₅
+  F₅ = show-flagged N₄ (q .stands) (told₄ .flagged)
+
+  G₄ : Grows N₄ N₆
+  G₄ = grows-trans (show-grows N₄ (q .stands) (told₄ .flagged)) (show-grows N₅ (q .blocks) F₅)
+
+  G₃ : Grows N₃ N₆
+  G₃ = grows-trans (told₄ .grows) G₄
+
+  G₂ : Grows N₂ N₆
   G₂ = grows-trans (told₃ .grows) G₃
 
-  G₁ : Grows N₁ N₅
+  G₁ : Grows N₁ N₆
   G₁ = grows-trans (woken .0) G₂
 
-  asked₃ : (j : ℕ) → askedIn N₅ j ≡ askedIn N₃ j
-  asked₃ j = show-asked N₄ (q .blocks) (show-flagged N₃ (q .stands) (told₃ .flagged)) j ∙ show-asked N₃ (q .stands) (told₃ .flagged) j
+  asked₄ : (j : ℕ) → askedIn N₆ j ≡ askedIn N₄ j
+  asked₄ j = show-asked N₅ (q .blocks) F₅ j ∙ show-asked N₄ (q .stands) (told₄ .flagged) j
 
-  fresh₅ : waitsOf (q .minute + 1) (q .stands) ≡ true → (askedIn N₅ (spotOf T (q .stands)) ≡ 0 → ⊥) × Sub moved (stirIn N₅ (spotOf T (q .stands)))
-  fresh₅ w =
+  asked₃ : (j : ℕ) → askedIn N₆ j ≡ askedIn N₃ j
+  asked₃ j = asked₄ j ∙ told₄ .asked j
+
+  fresh₆ : waitsOf (q .minute + 1) (q .stands) ≡ true → (askedIn N₆ (spotOf T (q .stands)) ≡ 0 → ⊥) × Sub moved (stirIn N₆ (spotOf T (q .stands)))
+  fresh₆ w =
       let d = woken .2 (due-waits (q .minute) (q .stands) ∙ w) in
-      (λ z. d .0 (G₂ .asked (spotOf T (q .stands)) z), sub-trans moved (stirIn N₂ (spotOf T (q .stands))) (stirIn N₅ (spotOf T (q .stands))) (d .1) (G₂ .stir (spotOf T (q .stands))))
+      (λ z. d .0 (G₂ .asked (spotOf T (q .stands)) z), sub-trans moved (stirIn N₂ (spotOf T (q .stands))) (stirIn N₆ (spotOf T (q .stands))) (d .1) (G₂ .stir (spotOf T (q .stands))))
 
   pub settles : Settles T q from moved N (settledOf T q from moved N)
   unfolding settledOf
   settles = record {
     spread = record {
-      grown = λ i h. ap (λ (x : ℕ). bitAnd x (stirIn N₅ i)) (sym (reset-stir N own (omega arith) F i h)) ∙ G₁ .stir i ∙ reset-stir N own (omega arith) F i h;
+      grown = λ i h. ap (λ (x : ℕ). bitAnd x (stirIn N₆ i)) (sym (reset-stir N own (omega arith) F i h)) ∙ G₁ .stir i ∙ reset-stir N own (omega arith) F i h;
       more = λ i z. sym (reset-asked N own (omega arith) F i) ∙ G₁ .asked i z;
-      left = λ k l other. told-keeps (spot k from) moved G₃ asked₃ (told₃ .told k l);
-      fresh = fresh₅;
+      left = λ k e l near other m. told-keeps (spot k e) moved G₃ asked₃ (told₃ .told k e l near m);
+      came = λ k e l near other some at. told-keeps (spot k e) moved G₄ asked₄ (told₄ .told k e l near some at);
+      fresh = fresh₆;
     };
-    flagged = show-flagged N₄ (q .blocks) (show-flagged N₃ (q .stands) (told₃ .flagged));
+    flagged = show-flagged N₅ (q .blocks) F₅;
     minutes = λ i l z. sym (reset-minutes N own (omega arith) F i) ∙ G₁ .minutes i l z;
-    stands-shown = λ z. show-own N₃ (q .stands) (told₃ .flagged) (show-grows N₄ (q .blocks) (show-flagged N₃ (q .stands) (told₃ .flagged)) .minutes (q .stands % 4096) (omega arith) z);
-    blocks-shown = show-own N₄ (q .blocks) (show-flagged N₃ (q .stands) (told₃ .flagged));
+    stands-shown = λ z. show-own N₄ (q .stands) (told₄ .flagged) (show-grows N₅ (q .blocks) F₅ .minutes (q .stands % 4096) (omega arith) z);
+    blocks-shown = show-own N₅ (q .blocks) F₅;
   }
 
 -- ---- the job of a pass
@@ -165,7 +181,7 @@ module _ (T : List ℕ) (t e k s : ℕ) (within : Within t e k) (small : Small T
   unfolding jobOf
   job-blocks = omega (arith, within .minute, small .safety)
 
-  job-at : jobOf T t e k s .stands / 4096 % 128 ≤ 65
+  job-at : jobOf T t e k s .stands / 4096 % 128 ≡ e
   unfolding jobOf
   job-at = omega (arith, within .minute, within .place, ways .stays (k * 128 + e) (omega (arith, within .place, within .train)))
 
@@ -194,20 +210,22 @@ module _ (T : List ℕ) (t e k s : ℕ) (within : Within t e k) (small : Small T
   pub job-ready : Ready T (jobOf T t e k s) (s / 4096 % 128)
   unfolding jobOf
   job-ready = record {
-    cap = refl;
+    suits = record { cap = refl; partner = refl };
+    train = within .train;
     place = omega (arith, within .place);
-    stands = omega (arith, job-stands T t e k s within small ways, within .train);
-    blocks = omega (arith, job-blocks T t e k s within small ways, within .train);
+    near = near;
+    stands = job-stands T t e k s within small ways;
+    blocks = job-blocks T t e k s within small ways;
     block = job-block T t e k s within small ways;
     stands-place = job-at T t e k s within small ways;
-    blocks-place = omega (arith, job-from T t e k s within small ways, near);
+    blocks-place = job-from T t e k s within small ways;
     nexts = λ x h. ways .nexts (x / 4096) (omega arith);
     one-place = same-place;
   }
 
 -- ---- the steps
 
-pub settled-steps : (T : List ℕ) (q : Job) (from moved : ℕ) (N a b d : List ℕ) → a ≡ wakeOf T (q .minute) (q .stands) moved (set N (spot (q .train) (q .place)) 0)
-    → b ≡ toldAll 8 a from moved → d ≡ showOf b (q .stands) → showOf d (q .blocks) ≡ settledOf T q from moved N
+pub settled-steps : (T : List ℕ) (q : Job) (from moved : ℕ) (N a b c d : List ℕ) → a ≡ wakeOf T (q .minute) (q .stands) moved (set N (spot (q .train) (q .place)) 0)
+    → b ≡ toldLeft T a from moved → c ≡ toldAcross T b (q .place) moved → d ≡ showOf c (q .stands) → showOf d (q .blocks) ≡ settledOf T q from moved N
 unfolding settledOf
-settled-steps T q from moved N a b d x y z = rw (z, y, x) refl
+settled-steps T q from moved N a b c d x y w z = rw (z, w, y, x) refl

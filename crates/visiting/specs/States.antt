@@ -4,19 +4,19 @@ use mathlib.Core.List.{List, [], _∷_}
 use Prim.Native.Nat.{ℕ}
 use Rattle.rules.specs.Lists.{one, each}
 use Rattle.theory_lists.specs.Every.{Every, every-append, every-each, every-map, every-all}
-use Rattle.cut.specs.Cut.{carried, heldOf}
+use Rattle.cut.specs.Cut.{Met, cutBy, heldOf}
 use Rattle.rows.specs.Rows.{Row, row, heldRows, enteredRows}
 use Rattle.asking.specs.declared.Job.{Job}
 use Rattle.asking.specs.Ask.{askingOf, metFor}
 use Rattle.serving.specs.Pass.{holdRow, coversOf, passedOf}
 
-hold-states : (P : ℕ → Type 0) (T : List ℕ) (q : Job) (es : List ℕ) (r : Row) → P (r .state) → Every (λ x. P (x .state)) (holdRow T q es r)
+hold-states : (P : ℕ → Type 0) (T : List ℕ) (q : Job) (m : Met) (r : Row) → P (r .state) → Every (λ x. P (x .state)) (holdRow T q m r)
 unfolding holdRow heldRows
-hold-states P T q es r h = go (askingOf T q r)
+hold-states P T q m r h = go (askingOf T q r)
   where
-    go : (z : Bool) → Every (λ x. P (x .state)) (cond z (heldRows (r .state) (heldOf (carried (q .cap) es 0 (r .cover)))) (r ∷ []))
-    go true = every-map (λ c. Unit) (λ x. P (x .state)) (λ c. row (r .state) c) (λ c u. h) (heldOf (carried (q .cap) es 0 (r .cover)))
-        (every-all (λ c. Unit) (λ c. tt) (heldOf (carried (q .cap) es 0 (r .cover))))
+    go : (z : Bool) → Every (λ x. P (x .state)) (cond z (heldRows (r .state) (heldOf (cutBy m (r .cover)))) (r ∷ []))
+    go true = every-map (λ c. Unit) (λ x. P (x .state)) (λ c. row (r .state) c) (λ c u. h) (heldOf (cutBy m (r .cover)))
+        (every-all (λ c. Unit) (λ c. tt) (heldOf (cutBy m (r .cover))))
     go false = (h, tt)
 
 entered-states : (P : ℕ → Type 0) (s b : ℕ) (two : Bool) (cs : List ℕ) → P s → P b → Every (λ x. P (x .state)) (enteredRows s b two cs)

@@ -20,7 +20,7 @@ use Rattle.asking.specs.declared.Job.{Job}
 use Rattle.asking.specs.Ask.{nextOf, asksOf, askerOf, jobOf, metFor, askingOf, stirsOf, stirredOf, Within}
 use Rattle.serving.specs.Pass.{holdStirred, enterStirred, coversOf, passedOf, stirredCovers, stirredPass}
 use Rattle.waiting.specs.Calm.{waitsOf, spot, spotOf, Still, Settled}
-use Rattle.waiting.specs.Calm.Still.{stirred, quiet}
+use Rattle.waiting.specs.Calm.Still.{stirred, rests}
 use Rattle.waiting.specs.Stirred.{due-waits, covers-stirred, passed-stirred}
 use Rattle.waiting.specs.Notes.{stirIn, askedIn, Flagged}
 use Rattle.visiting.specs.Visit.{Outcome, arrivedOf, guard, jobFor, someAsks, afterPass, passOf, read, Keyed, Kept, Ways, Noted, Seen}
@@ -71,10 +71,10 @@ pass-still T t e k N l v fits noted none = go (someAsks T t e k l)
     J = jobFor T t e k l
 
     rows-same : passedOf T J l ≡ l
-    rows-same = passed-stirred T J (stirIn N) (askedIn N) l refl (noted .calm) ∙ still-pass T J (stirIn N (spot k e)) l none
+    rows-same = passed-stirred T J (stirIn N) (askedIn N) l (record { cap = refl; partner = refl }) (noted .calm) ∙ still-pass T J (stirIn N (spot k e)) l none
 
     covers-none : coversOf T J l ≡ []
-    covers-none = covers-stirred T J (stirIn N) (askedIn N) l refl (noted .calm) ∙ still-covers T J (stirIn N (spot k e)) l none
+    covers-none = covers-stirred T J (stirIn N) (askedIn N) l (record { cap = refl; partner = refl }) (noted .calm) ∙ still-covers T J (stirIn N (spot k e)) l none
 
     go : (b : Bool) → cond b (afterPass T J l v) (stands l v) ≡ stands l v
     go true = ap₂ (λ (x : List Row) (cs : List ℕ). guard (getD T 3 0) x (arrivedOf T J cs v)) rows-same covers-none ∙ guard-in (getD T 3 0) l v fits
@@ -141,7 +141,7 @@ module _ (T : List ℕ) (t e k : ℕ) (N : List ℕ) (l : List Row) (ways : Ways
 
       go : waitsOf (t + 1) (r .state) ≡ true → Still T (stirIn N) l (r .state) (r .cover) → Still T (stirIn N₁) l (r .state) (r .cover)
       go w (stirred x) = stirred (ap (λ (y : ℕ). fullOf 8 (bitAnd (r .cover) y)) (stir₁ (spotOf T (r .state)) (other w)) ∙ x)
-      go w (quiet x) = quiet x
+      go w (rests x) = rests x
 
   pub none-noted : Noted T t N₁ l
   none-noted = record {
@@ -179,7 +179,7 @@ module _ (T : List ℕ) (t e k : ℕ) (N : List ℕ) (l : List Row) (ways : Ways
       go w true z (stirred x) = absurd (apart w (eqb-true (spotOf T (r .state)) (spot k e) z) x)
       go w false z (stirred x) =
           stirred (ap (λ (y : ℕ). fullOf 8 (bitAnd (r .cover) y)) (reset-stir N (spot k e) (omega arith) F (spotOf T (r .state)) (eqb-false (spotOf T (r .state)) (spot k e) z)) ∙ x)
-      go w b z (quiet x) = quiet x
+      go w b z (rests x) = rests x
 
   pub calm-noted : Noted T t (set N (spot k e) 0) l
   calm-noted = record {

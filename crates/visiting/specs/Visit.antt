@@ -10,10 +10,10 @@ use Rattle.theory_lists.specs.Every.{Every}
 use Rattle.rows.specs.Rows.{Row, rowsOf, endedOf}
 use Rattle.weigh.specs.Weigh.{broughtOf}
 use Rattle.asking.specs.declared.Job.{Job}
-use Rattle.asking.specs.Ask.{dueOf, asksOf, askerOf, jobOf, reachOf}
+use Rattle.asking.specs.Ask.{dueOf, asksOf, askerOf, jobOf, reachOf, Mutual}
 use Rattle.serving.specs.Pass.{coversOf, passedOf}
 use Rattle.waiting.specs.Calm.{spot, spotOf, Calm}
-use Rattle.waiting.specs.Notes.{stirIn, askedIn, toldAll, freshOf, Flagged}
+use Rattle.waiting.specs.Notes.{stirIn, askedIn, toldAcross, toldLeft, freshOf, Flagged}
 
 -- ---- the pass
 
@@ -61,10 +61,13 @@ showOf N s = set N (2176 + s % 4096) 1
 unfoldable pub wakeOf : List ℕ → ℕ → ℕ → ℕ → List ℕ → List ℕ
 wakeOf T t s c N = cond (dueOf t s) (freshOf N (spotOf T s) c) N
 
--- after the pass: its own pair has asked, the pairs that it concerns are told of all that moved, and the minutes of the new states are shown
+-- after the pass: its own pair has asked; the pairs of the place that was left, of its partner, and of the partner of the place that was entered are told of all
+-- that moved; and the minutes of the new states are shown
 unfoldable pub settledOf : List ℕ → Job → ℕ → ℕ → List ℕ → List ℕ
 settledOf T q from moved N =
-    showOf (showOf (toldAll 8 (wakeOf T (q .minute) (q .stands) moved (set N (spot (q .train) (q .place)) 0)) from moved) (q .stands)) (q .blocks)
+    let woken = wakeOf T (q .minute) (q .stands) moved (set N (spot (q .train) (q .place)) 0) in
+    let told = toldAcross T (toldLeft T woken from moved) (q .place) moved in
+    showOf (showOf told (q .stands)) (q .blocks)
 
 -- ---- contracts
 
@@ -77,13 +80,15 @@ pub record Kept (w : ℕ) (rows : List ℕ) : Type 0 where
   pub within : w ≤ length rows
   pub even : w / 2 * 2 ≡ w
 
--- the planned minutes fit their places, so do the codes of the next elements, an element is next from one place of a train alone, and each train has a delay
+-- the planned minutes fit their places, so do the codes of the next elements, an element is next from one place of a train alone, each train has a delay, and
+-- partners are each other's
 pub record Ways (T : List ℕ) : Type 0 where
   pub stays : (i : ℕ) → i < 1024 → getD T (1264 + i) 0 < 1024
   pub nexts : (i : ℕ) → i < 1024 → getD T (240 + i) 0 < 128
   pub one-place : (i j : ℕ) → i < 1024 → j < 1024 → i % 128 ≤ 65 → j % 128 ≤ 65 → i / 128 ≡ j / 128 → getD T (240 + i) 0 ≤ 64 → getD T (240 + i) 0 ≡ getD T (240 + j) 0
       → i ≡ j
   pub delays : (k : ℕ) → k < getD T 0 0 → 1 ≤ getD T (40 + k) 0
+  pub pairs : Mutual T
 
 -- rows of trains that there can be, at places that there can be
 abbrev pub Placed : List Row → Type 0

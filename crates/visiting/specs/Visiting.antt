@@ -108,11 +108,11 @@ module _ (T : List ℕ) (t e k n s : ℕ) (rows weights N : List ℕ)
   -- the pass of the rows that were stirred is the pass
   pass-is : passedOf T J L ≡ stirredPass T J u L
   unfolding jobOf
-  pass-is = passed-stirred T J (stirIn N) (askedIn N) L refl (noted .calm)
+  pass-is = passed-stirred T J (stirIn N) (askedIn N) L (record { cap = refl; partner = refl }) (noted .calm)
 
   covers-are : coversOf T J L ≡ stirredCovers T J u L
   unfolding jobOf
-  covers-are = covers-stirred T J (stirIn N) (askedIn N) L refl (noted .calm)
+  covers-are = covers-stirred T J (stirIn N) (askedIn N) L (record { cap = refl; partner = refl }) (noted .calm)
 
   -- the job of the pass is that of its first asker, which stands where this one stands
   job-is : jobFor T t e k L ≡ J
@@ -124,7 +124,7 @@ module _ (T : List ℕ) (t e k n s : ℕ) (rows weights N : List ℕ)
 
   module _ (moved : ℕ) (rows′ weights′ N′ entering′ : List ℕ) (z : Ends) (same : length rows′ ≡ length rows)
       (p₀ : Passed (passBy (stirsOf key t u) J L) (coversBy (stirsOf key t u) J L) z rows′ entering′)
-      (went₀ : Every (λ x. Went (holdBy (stirsOf key t u) (J .cap) (metFor J L) x) (enterBy (stirsOf key t u) (J .cap) (metFor J L) x) moved x) L)
+      (went₀ : Every (λ x. Went (holdBy (stirsOf key t u) (metFor J L) x) (enterBy (stirsOf key t u) (metFor J L) x) moved x) L)
       (w : weights′ ≡ arrivedOf T J (take (z .entering) entering′) weights) (m : N′ ≡ settledOf T J (s / 4096 % 128) moved N) where
     p : Passed (stirredPass T J u L) (stirredCovers T J u L) z rows′ entering′
     unfolding stirredPass stirredCovers
@@ -133,7 +133,7 @@ module _ (T : List ℕ) (t e k n s : ℕ) (rows weights N : List ℕ)
         (subst (λ (cs : List ℕ). Passed (passBy (stirsOf key t u) J L) cs z rows′ entering′) (covers-same (stirsOf key t u) (stirredOf T J u) J L same-test) p₀)
 
     went : Every (λ x. Went (holdStirred T J u (metFor J L) x) (enterStirred T J u (metFor J L) x) moved x) L
-    went = went-same (stirsOf key t u) (stirredOf T J u) (J .cap) (metFor J L) moved L same-test went₀
+    went = went-same (stirsOf key t u) (stirredOf T J u) (metFor J L) moved L same-test went₀
 
     after : Settles T J (s / 4096 % 128) moved N (settledOf T J (s / 4096 % 128) moved N)
     unfolding jobOf

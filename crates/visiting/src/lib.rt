@@ -57,7 +57,8 @@ fn settle(tables: &[u64], notes: &mut [u64], q: asking::Job, from: u64, moved: u
     let own = i as usize;
     notes[own] = 0;
     wake_due(tables, notes, q.stands, q.minute, moved);
-    waiting::tell_all(notes, from as usize, moved);
+    waiting::tell_left(tables, notes, from, moved);
+    waiting::tell_across(tables, notes, q.place, moved);
     show(notes, q.stands);
     show(notes, q.blocks);
 }

@@ -1,8 +1,8 @@
--- Which rows wait that need not ask again. For each pair of train and element there is a word that has every cover on the element that has gone or was cut
--- since the train's rows last asked for it (the pair is stirred by it), and a word that is 0 while none of its rows waits. The rows are calm if each that
--- waits shares a choice with what stirred its pair, or is quiet for what it meets. Rows stay calm while rows go and are cut, as long as the pairs that they
--- concern are told. Assumes nothing.
-use mathlib.Core.Path.{_≡_, refl, ap, sym, _∙_}
+-- Which rows wait that need not ask again. For each pair of train and element there is a word that has every cover on the element or on its partner that has
+-- gone or was cut, and every cover that came to the partner, since the train's rows last asked for it (the pair is stirred by it), and a word that is 0 while
+-- none of its rows waits. The rows are calm if each that waits shares a choice with what stirred its pair, or rests at what it meets. Rows stay calm while rows
+-- go, are cut and come, as long as the pairs that they concern are told. Assumes nothing.
+use mathlib.Core.Path.{_≡_, refl, sym, _∙_, subst}
 use mathlib.Core.Bool.{Bool, true, false, not, cond, false≢true}
 use mathlib.Core.List.{List, [], _∷_, _++_}
 use Prim.Native.Nat.{ℕ, _+_, _*_, _/_, _%_, _≤_, _<_}
@@ -11,13 +11,14 @@ use lib.Bits.{bitAnd}
 use lib.Dec.{eqb, ltb}
 use Rattle.rules.specs.Lists.{one, each}
 use Rattle.theory_lists.specs.Each.{each-append}
-use Rattle.theory_lists.specs.Every.{Every, every-more}
+use Rattle.theory_lists.specs.Every.{Every, every-each, every-more, every-one}
 use Rattle.cut.specs.Cut.{fullOf}
 use Rattle.rows.specs.Rows.{Row, meetsOf, metOf}
-use Rattle.asking.specs.Ask.{nextOf, capOf}
+use Rattle.asking.specs.Ask.{nextOf, partnerOf, metAcross, metOn, metAt}
 use Rattle.quiet.specs.Parts.{Sub}
-use Rattle.quiet.specs.Quiet.{Quiet, quiet-more}
-use Rattle.quiet.specs.Like.{quiet-like, Change, part-apart, like-rows}
+use Rattle.quiet.specs.Crossed.{Rests, rests-like, rests-more}
+use Rattle.quiet.specs.Like.{Like, Change, part-apart, like-rows}
+use Rattle.quiet.specs.Like.Like.{none}
 use Rattle.quiet.specs.Like.Change.{kept, cut}
 
 -- ---- the definitions
@@ -33,14 +34,10 @@ spot k e = k * 128 + e
 abbrev pub spotOf : List ℕ → ℕ → ℕ
 spotOf T s = spot (s / 524288) (nextOf T s)
 
--- the covers that train k meets at e; on the way out there are none
-unfoldable pub metAt : ℕ → ℕ → List Row → List ℕ
-metAt e k l = cond (ltb e 64) (metOf e k l) []
-
--- a state and a cover that share a choice with what stirred their pair, or are quiet
+-- a state and a cover that share a choice with what stirred their pair, or rest at what they meet
 pub data Still (T : List ℕ) (stir : ℕ → ℕ) (l : List Row) (s c : ℕ) : Type 0 where
   stirred : fullOf 8 (bitAnd c (stir (spotOf T s))) ≡ true → Still T stir l s c
-  quiet : Quiet c (capOf T (nextOf T s)) (metAt (nextOf T s) (s / 524288) l) → Still T stir l s c
+  rests : Rests c (metAt T (nextOf T s) (s / 524288) l) → Still T stir l s c
 
 pub record Settled (T : List ℕ) (n : ℕ) (stir asked : ℕ → ℕ) (l : List Row) (r : Row) : Type 0 where
   pub full : fullOf 8 (r .cover) ≡ true
@@ -52,18 +49,28 @@ pub record Settled (T : List ℕ) (n : ℕ) (stir asked : ℕ → ℕ) (l : List
 abbrev pub Calm : List ℕ → ℕ → (ℕ → ℕ) → (ℕ → ℕ) → List Row → Type 0
 Calm T n stir asked l = Every (Settled T n stir asked l) l
 
--- ---- rows that go or are cut
+-- ---- rows that go, are cut or come
+
+-- who asks for e meets what is at p: it is e, or the partner of e
+pub data Meets (T : List ℕ) (e p : ℕ) : Type 0 where
+  own : p ≡ e → Meets T e p
+  across : (partnerOf T e ≡ 0 → ⊥) → p ≡ partnerOf T e → Meets T e p
 
 -- train k's pair with the element is told of the cover c, or none of its rows waits
 pub data Told (stir asked : ℕ → ℕ) (i c : ℕ) : Type 0 where
   nobody : asked i ≡ 0 → Told stir asked i c
   told : Sub c (stir i) → Told stir asked i c
 
--- what becomes of a row: it stays, or parts of it do, and the pairs of the other trains with its place are told
-pub data Moved (stir asked : ℕ → ℕ) (r : Row) : List Row → Type 0 where
-  stays : Moved stir asked r (r ∷ [])
+-- what becomes of a row: it stays, or parts of it do, and the pairs of the other trains that meet it are told
+pub data Moved (T : List ℕ) (stir asked : ℕ → ℕ) (r : Row) : List Row → Type 0 where
+  stays : Moved T stir asked r (r ∷ [])
   goes : {l : List Row} → Every (λ x. (x .state ≡ r .state) × Sub (x .cover) (r .cover)) l
-      → ((k : ℕ) → k < 8 → (r .state / 524288 ≡ k → ⊥) → Told stir asked (spot k (r .state / 4096 % 128)) (r .cover)) → Moved stir asked r l
+      → ((k e : ℕ) → k < 8 → e < 128 → (r .state / 524288 ≡ k → ⊥) → Meets T e (r .state / 4096 % 128) → Told stir asked (spot k e) (r .cover)) → Moved T stir asked r l
+
+-- a row that came: the pairs of the other trains with the partner of its place are told
+abbrev pub Came : List ℕ → (ℕ → ℕ) → (ℕ → ℕ) → Row → Type 0
+Came T stir asked r =
+    (k e : ℕ) → k < 8 → e < 128 → (r .state / 524288 ≡ k → ⊥) → (partnerOf T e ≡ 0 → ⊥) → r .state / 4096 % 128 ≡ partnerOf T e → Told stir asked (spot k e) (r .cover)
 
 -- a row that is met stands at the place and is another train's
 pub met-is : (e k s : ℕ) → meetsOf e k s ≡ true → (s / 4096 % 128 ≡ e) × (s / 524288 ≡ k → ⊥)
@@ -79,43 +86,90 @@ met-more : (e k : ℕ) (a b : List Row) → metOf e k (a ++ b) ≡ metOf e k a +
 unfolding metOf
 met-more e k a b = each-append (λ r. one (meetsOf e k (r .state)) (r .cover)) a b
 
-module _ (T : List ℕ) (stir asked : ℕ → ℕ) (f : Row → List Row) (new l : List Row) (moved : Every (λ r. Moved stir asked r (f r)) l) where
+own-more : (e k : ℕ) (a b : List Row) → metOn e k (a ++ b) ≡ metOn e k a ++ metOn e k b
+unfolding metOn
+own-more e k a b = go (ltb e 64)
+  where
+    go : (t : Bool) → cond t (metOf e k (a ++ b)) [] ≡ cond t (metOf e k a) [] ++ cond t (metOf e k b) []
+    go true = met-more e k a b
+    go false = refl
+
+across-more : (w k : ℕ) (a b : List Row) → metAcross w k (a ++ b) ≡ metAcross w k a ++ metAcross w k b
+unfolding metAcross
+across-more w k a b = go (eqb w 0)
+  where
+    go : (t : Bool) → cond t [] (metOf w k (a ++ b)) ≡ cond t [] (metOf w k a) ++ cond t [] (metOf w k b)
+    go true = refl
+    go false = met-more w k a b
+
+module _ (T : List ℕ) (stir asked : ℕ → ℕ) (f : Row → List Row) (new l : List Row) (moved : Every (λ r. Moved T stir asked r (f r)) l) (came : Every (Came T stir asked) new) where
   -- as the asker with the cover c of train k for e sees it, where its pair was told of nothing that it shares a choice with
-  change-of : (k e c : ℕ) → k < 8 → (asked (spot k e) ≡ 0 → ⊥) → fullOf 8 (bitAnd c (stir (spot k e))) ≡ false → (r : Row) (x : List Row) → Moved stir asked r x → Change c e k r x
-  change-of k e c small some calm r x stays = kept
-  change-of k e c small some calm r x (goes h g) = cut apart h
-    where
-      heard : (p : ℕ) → p ≡ e → Told stir asked (spot k p) (r .cover) → fullOf 8 (bitAnd c (r .cover)) ≡ false
-      heard p q (nobody z) = absurd (some (ap (λ (y : ℕ). asked (spot k y)) (sym q) ∙ z))
-      heard p q (told s) = part-apart c (stir (spot k e)) (r .cover) (ap (λ (y : ℕ). bitAnd (r .cover) (stir (spot k y))) (sym q) ∙ s) calm
+  module _ (k e c : ℕ) (small : k < 8) (low : e < 128) (some : asked (spot k e) ≡ 0 → ⊥) (calm : fullOf 8 (bitAnd c (stir (spot k e))) ≡ false) where
+    heard : (d : ℕ) → Told stir asked (spot k e) d → fullOf 8 (bitAnd c d) ≡ false
+    heard d (nobody z) = absurd (some z)
+    heard d (told s) = part-apart c (stir (spot k e)) d s calm
 
-      apart : meetsOf e k (r .state) ≡ true → fullOf 8 (bitAnd c (r .cover)) ≡ false
-      apart m = let is = met-is e k (r .state) m in heard (r .state / 4096 % 128) (is .0) (g k small (is .1))
+    change-of : (p : ℕ) → Meets T e p → (r : Row) (x : List Row) → Moved T stir asked r x → Change c p k r x
+    change-of p m r x stays = kept
+    change-of p m r x (goes h g) = cut apart h
+      where
+        apart : meetsOf p k (r .state) ≡ true → fullOf 8 (bitAnd c (r .cover)) ≡ false
+        apart q = let is = met-is p k (r .state) q in heard (r .cover) (g k e small low (is .1) (subst (Meets T e) (sym (is .0)) m))
 
-  quiet-next : (k e c n : ℕ) → k < 8 → fullOf 8 c ≡ true → (asked (spot k e) ≡ 0 → ⊥) → fullOf 8 (bitAnd c (stir (spot k e))) ≡ false
-      → Quiet c n (metAt e k l) → Quiet c n (metAt e k (each f l ++ new))
-  unfolding metAt
-  quiet-next k e c n small full some calm q = go (ltb e 64) q
-    where
-      go : (b : Bool) → Quiet c n (cond b (metOf e k l) []) → Quiet c n (cond b (metOf e k (each f l ++ new)) [])
-      go true h =
-          rw (met-more e k (each f l) new)
-          (quiet-more (metOf e k new) (quiet-like full (like-rows c e k f l (every-more (λ r. Moved stir asked r (f r)) (λ r. Change c e k r (f r)) (λ r m. change-of k e c small some calm r (f r) m) l moved)) h))
-      go false h = h
+    -- what is met at e, or at its partner
+    like-at : (p : ℕ) → Meets T e p → Like c (metOf p k l) (metOf p k (each f l))
+    like-at p m = like-rows c p k f l (every-more (λ r. Moved T stir asked r (f r)) (λ r. Change c p k r (f r)) (λ r h. change-of p m r (f r) h) l moved)
 
-  -- a state with its cover, quiet before, is stirred or quiet afterwards
-  pub still-next : (s c : ℕ) → s / 524288 < 8 → fullOf 8 c ≡ true → (asked (spotOf T s) ≡ 0 → ⊥) → Quiet c (capOf T (nextOf T s)) (metAt (nextOf T s) (s / 524288) l)
+    like-own : Like c (metOn e k l) (metOn e k (each f l))
+    unfolding metOn
+    like-own = go (ltb e 64)
+      where
+        go : (b : Bool) → Like c (cond b (metOf e k l) []) (cond b (metOf e k (each f l)) [])
+        go true = like-at e (own refl)
+        go false = none
+
+    like-across : Like c (metAcross (partnerOf T e) k l) (metAcross (partnerOf T e) k (each f l))
+    unfolding metAcross
+    like-across = go (eqb (partnerOf T e) 0) refl
+      where
+        go : (b : Bool) → eqb (partnerOf T e) 0 ≡ b → Like c (cond b [] (metOf (partnerOf T e) k l)) (cond b [] (metOf (partnerOf T e) k (each f l)))
+        go true h = none
+        go false h = like-at (partnerOf T e) (across (eqb-false (partnerOf T e) 0 h) refl)
+
+    -- what came to the partner
+    apart-came : Every (λ d. fullOf 8 (bitAnd c d) ≡ false) (metAcross (partnerOf T e) k new)
+    unfolding metAcross metOf
+    apart-came = go (eqb (partnerOf T e) 0) refl
+      where
+        at : (partnerOf T e ≡ 0 → ⊥) → (r : Row) → Came T stir asked r → Every (λ d. fullOf 8 (bitAnd c d) ≡ false) (one (meetsOf (partnerOf T e) k (r .state)) (r .cover))
+        at h r g =
+            every-one (λ d. fullOf 8 (bitAnd c d) ≡ false) (meetsOf (partnerOf T e) k (r .state)) (r .cover)
+            (λ q. let is = met-is (partnerOf T e) k (r .state) q in heard (r .cover) (g k e small low (is .1) h (is .0)))
+
+        go : (b : Bool) → eqb (partnerOf T e) 0 ≡ b → Every (λ d. fullOf 8 (bitAnd c d) ≡ false) (cond b [] (metOf (partnerOf T e) k new))
+        go true h = tt
+        go false h =
+            every-each (Came T stir asked) (λ d. fullOf 8 (bitAnd c d) ≡ false) (λ r. one (meetsOf (partnerOf T e) k (r .state)) (r .cover)) (at (eqb-false (partnerOf T e) 0 h)) new came
+
+    rests-next : fullOf 8 c ≡ true → Rests c (metAt T e k l) → Rests c (metAt T e k (each f l ++ new))
+    rests-next full q =
+        rw (across-more (partnerOf T e) k (each f l) new, own-more e k (each f l) new)
+        (rests-more {m = metAt T e k (each f l)} (metAcross (partnerOf T e) k new) apart-came (metOn e k new) (rests-like {m = metAt T e k l} full like-across like-own q))
+
+  -- a state with its cover, at rest before, is stirred or at rest afterwards
+  pub still-next : (s c : ℕ) → s / 524288 < 8 → nextOf T s < 128 → fullOf 8 c ≡ true → (asked (spotOf T s) ≡ 0 → ⊥) → Rests c (metAt T (nextOf T s) (s / 524288) l)
       → Still T stir (each f l ++ new) s c
-  still-next s c small full some q = go (fullOf 8 (bitAnd c (stir (spotOf T s)))) refl
+  still-next s c small low full some q = go (fullOf 8 (bitAnd c (stir (spotOf T s)))) refl
     where
       go : (b : Bool) → fullOf 8 (bitAnd c (stir (spotOf T s))) ≡ b → Still T stir (each f l ++ new) s c
       go true h = stirred h
-      go false h = quiet (quiet-next (s / 524288) (nextOf T s) c (capOf T (nextOf T s)) small full some h q)
+      go false h = rests (rests-next (s / 524288) (nextOf T s) c small low some h full q)
 
   -- a row that stays is settled afterwards, where its pair's words only grew
-  pub settled-next : (n : ℕ) (was before : ℕ → ℕ) (r : Row) → (waitsOf n (r .state) ≡ true → Sub (was (spotOf T (r .state))) (stir (spotOf T (r .state))))
+  pub settled-next : (n : ℕ) (was before : ℕ → ℕ) (r : Row) → nextOf T (r .state) < 128
+      → (waitsOf n (r .state) ≡ true → Sub (was (spotOf T (r .state))) (stir (spotOf T (r .state))))
       → (asked (spotOf T (r .state)) ≡ 0 → before (spotOf T (r .state)) ≡ 0) → Settled T n was before l r → Settled T n stir asked (each f l ++ new) r
-  settled-next n was before r grown more h = record {
+  settled-next n was before r low grown more h = record {
     full = h .full;
     train = h .train;
     place = h .place;
@@ -128,4 +182,4 @@ module _ (T : List ℕ) (stir asked : ℕ → ℕ) (f : Row → List Row) (new l
       go true e w x = stirred e
       go false e w (stirred x) =
           absurd (false≢true (sym (part-apart (r .cover) (stir (spotOf T (r .state))) (was (spotOf T (r .state))) (grown w) e) ∙ x))
-      go false e w (quiet x) = still-next (r .state) (r .cover) (h .train) (h .full) (λ z. h .known w (more z)) x
+      go false e w (rests x) = still-next (r .state) (r .cover) (h .train) low (h .full) (λ z. h .known w (more z)) x

@@ -8,6 +8,7 @@ use lib.ListN.{length, getD, set}
 use lib.Bits.{bitOr}
 use lib.Dec.{ltb, eqb}
 use Rattle.quiet.specs.Parts.{Sub}
+use Rattle.asking.specs.Ask.{partnerOf}
 use Rattle.waiting.specs.Calm.{spot}
 
 -- the words of the pairs, at train · 128 + element: what stirred them, from 0 on, and whether rows of theirs wait, from 1152 on
@@ -25,6 +26,14 @@ toldOf N i c = cond (eqb (getD N (1152 + i) 0) 0) N (set (set N i (bitOr (getD N
 unfoldable pub toldAll : ℕ → List ℕ → ℕ → ℕ → List ℕ
 toldAll zero N e c = N
 toldAll (suc k) N e c = toldOf (toldAll k N e c) (spot k e) c
+
+-- the pairs of all trains with the partner of e, if it has one
+unfoldable pub toldAcross : List ℕ → List ℕ → ℕ → ℕ → List ℕ
+toldAcross T N e c = cond (eqb (partnerOf T e) 0) N (toldAll 8 N (partnerOf T e) c)
+
+-- the pairs of all trains with e, which is left, and with its partner
+unfoldable pub toldLeft : List ℕ → List ℕ → ℕ → ℕ → List ℕ
+toldLeft T N e c = toldAcross T (toldAll 8 N e c) e c
 
 -- a row of the pair i with the cover c now waits
 unfoldable pub freshOf : List ℕ → ℕ → ℕ → List ℕ

@@ -1,6 +1,6 @@
 -- Laws of what a run notes: telling a pair of a cover, and telling all pairs of an element, only makes words grow, and the pair then knows of the cover.
 -- Assumes nothing.
-use mathlib.Core.Path.{_≡_, refl, ap, sym, _∙_}
+use mathlib.Core.Path.{_≡_, refl, ap, sym, _∙_, subst}
 use mathlib.Core.Bool.{Bool, true, false, cond}
 use mathlib.Core.List.{List, [], _∷_}
 use Prim.Native.Nat.{ℕ, zero, suc, _+_, _*_, _%_, _≤_, _<_}
@@ -11,9 +11,11 @@ use lib.Seq.{getD-set-same, getD-set-other}
 use lib.Bits.{bitAnd, bitOr, and-self, and-zero-l}
 use lib.Dec.{ltb, eqb}
 use Rattle.quiet.specs.Parts.{Sub, sub-trans, sub-or-left, sub-or-right}
-use Rattle.waiting.specs.Calm.{spot, Told}
+use Rattle.asking.specs.Ask.{partnerOf, Mutual}
+use Rattle.waiting.specs.Calm.{spot, Told, Meets}
+use Rattle.waiting.specs.Calm.Meets.{own, across}
 use Rattle.waiting.specs.Calm.Told.{nobody, told}
-use Rattle.waiting.specs.Notes.{stirIn, askedIn, toldOf, toldAll, freshOf, Flagged, Grows}
+use Rattle.waiting.specs.Notes.{stirIn, askedIn, toldOf, toldAll, toldAcross, toldLeft, freshOf, Flagged, Grows}
 
 -- ---- growing
 
@@ -227,6 +229,71 @@ told-all (suc k) N e c h l F = go (told-all k N e c (omega arith) l F)
             let other : j ≡ k → ⊥ = eqb-false j k q in
             let fewer : j < k = omega arith in
             told-keeps (spot j e) c (one .grows) (one .asked) (t .told j fewer)
+
+-- ---- telling the pairs of a partner
+
+-- the pairs that meet what is at e across their element are told
+pub record TellsAcross (T N : List ℕ) (e c : ℕ) (M : List ℕ) : Type 0 where
+  pub grows : Grows N M
+  pub flagged : Flagged M
+  pub asked : (j : ℕ) → askedIn M j ≡ askedIn N j
+  pub told : (k i : ℕ) → k < 8 → i < 128 → (partnerOf T i ≡ 0 → ⊥) → e ≡ partnerOf T i → Told (stirIn M) (askedIn M) (spot k i) c
+
+pub told-across : (T N : List ℕ) (e c : ℕ) → Mutual T → e < 128 → Flagged N → TellsAcross T N e c (toldAcross T N e c)
+unfolding toldAcross
+told-across T N e c pairs low F = go (eqb (partnerOf T e) 0) refl
+  where
+    -- whose partner e is, is the partner of e
+    is : (i : ℕ) → i < 128 → (partnerOf T i ≡ 0 → ⊥) → e ≡ partnerOf T i → partnerOf T e ≡ i
+    is i l some z = ap (partnerOf T) z ∙ pairs .back i l some
+
+    go : (b : Bool) → eqb (partnerOf T e) 0 ≡ b → TellsAcross T N e c (cond b N (toldAll 8 N (partnerOf T e) c))
+    go true h = record {
+      grows = grows-same N;
+      flagged = F;
+      asked = λ j. refl;
+      told = λ k i small l some z. absurd (some (ap (partnerOf T) (sym (is i l some z) ∙ eqb-true (partnerOf T e) 0 h) ∙ pairs .alone));
+    }
+    go false h =
+        let all : TellsAll 8 N (partnerOf T e) c (toldAll 8 N (partnerOf T e) c) = told-all 8 N (partnerOf T e) c (omega arith) (omega (arith, pairs .low e low)) F in
+        record {
+          grows = all .grows;
+          flagged = all .flagged;
+          asked = all .asked;
+          told = λ k i small l some z. subst (λ (x : ℕ). Told (stirIn (toldAll 8 N (partnerOf T e) c)) (askedIn (toldAll 8 N (partnerOf T e) c)) (spot k x) c) (is i l some z) (all .told k small);
+        }
+
+-- the pairs that meet what is at e are told
+pub record TellsLeft (T N : List ℕ) (e c : ℕ) (M : List ℕ) : Type 0 where
+  pub grows : Grows N M
+  pub flagged : Flagged M
+  pub asked : (j : ℕ) → askedIn M j ≡ askedIn N j
+  pub told : (k i : ℕ) → k < 8 → i < 128 → Meets T i e → Told (stirIn M) (askedIn M) (spot k i) c
+
+pub told-left : (T N : List ℕ) (e c : ℕ) → Mutual T → e < 128 → Flagged N → TellsLeft T N e c (toldLeft T N e c)
+unfolding toldLeft
+told-left T N e c pairs low F = record {
+  grows = grows-trans (here .grows) (there .grows);
+  flagged = there .flagged;
+  asked = λ j. there .asked j ∙ here .asked j;
+  told = meeting;
+}
+  where
+    N₁ : List ℕ
+    N₁ = toldAll 8 N e c
+
+    M : List ℕ
+    M = toldAcross T N₁ e c
+
+    here : TellsAll 8 N e c N₁
+    here = told-all 8 N e c (omega arith) low F
+
+    there : TellsAcross T N₁ e c M
+    there = told-across T N₁ e c pairs low (here .flagged)
+
+    meeting : (k i : ℕ) → k < 8 → i < 128 → Meets T i e → Told (stirIn M) (askedIn M) (spot k i) c
+    meeting k i small l (own z) = subst (λ (x : ℕ). Told (stirIn M) (askedIn M) (spot k x) c) z (told-keeps (spot k e) c (there .grows) (there .asked) (here .told k small))
+    meeting k i small l (across some z) = there .told k i small l some z
 
 -- ---- a row that now waits
 

@@ -2,7 +2,8 @@
 ghost use mathlib.Core.Path.{_≡_};
 ghost use Prim.Native.Nat.{_<_};
 ghost use lib.ListN.{length};
-ghost use Rattle.waiting.specs.Notes.{toldOf, toldAll, freshOf};
+ghost use Rattle.asking.specs.Ask.{Mutual};
+ghost use Rattle.waiting.specs.Notes.{toldOf, toldAll, toldAcross, toldLeft, freshOf};
 
 // The pair i is told of the cover c, if rows of it wait.
 fn tell(notes: &mut [u64], i: usize, c: u64)
@@ -27,6 +28,27 @@ pub fn tell_all(notes: &mut [u64], e: usize, c: u64)
         tell(notes, k * 128 + e, c);
         k += 1;
     }
+}
+
+// The pairs of all trains with the partner of e, if it has one, are told of the cover c.
+pub fn tell_across(tables: &[u64], notes: &mut [u64], e: u64, c: u64)
+    requires { ⌜ (length (now notes) ≡ 6272) × (e < 128) × Mutual (now tables) ⌝ }
+    ensures { λ _. ⌜ now (notes .exit) ≡ toldAcross (now (tables .entry)) (now (notes .entry)) e c ⌝ }
+{
+    let w = words::at(tables, 2288 + e);
+    if w == 0 {
+        return;
+    }
+    tell_all(notes, w as usize, c);
+}
+
+// The pairs of all trains with e, which is left, and with its partner are told of the cover c.
+pub fn tell_left(tables: &[u64], notes: &mut [u64], e: u64, c: u64)
+    requires { ⌜ (length (now notes) ≡ 6272) × (e < 128) × Mutual (now tables) ⌝ }
+    ensures { λ _. ⌜ now (notes .exit) ≡ toldLeft (now (tables .entry)) (now (notes .entry)) e c ⌝ }
+{
+    tell_all(notes, e as usize, c);
+    tell_across(tables, notes, e, c);
 }
 
 // A row of the pair i with the cover c now waits.

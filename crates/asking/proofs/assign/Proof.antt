@@ -28,42 +28,48 @@ at-requires c κs = search needs
 at-requires-2 : tie.Need-at-requires-2
 at-requires-2 c κs = search needs
 
-mul-t12 : tie.Need-mul-t12
-mul-t12 c = omega (arith, c .before .before .before .before .pre .0 .train, c .before .before .before .before .pre .0 .place)
+add-at-3 : tie.Need-add-at-3
+add-at-3 c = search needs
 
-mul-t10 : tie.Need-mul-t10
-mul-t10 c = omega (arith, c .before .before .before .before .pre .0 .train, c .before .before .before .before .pre .0 .place)
+at-requires-3 : tie.Need-at-requires-3
+at-requires-3 c κs = search needs
 
-add-t11 : tie.Need-add-t11
-add-t11 c = omega (arith, c .before .before .before .before .pre .0 .train, c .before .before .before .before .pre .0 .place)
+mul-t11 : tie.Need-mul-t11
+mul-t11 c = omega (arith, c .before .before .before .before .before .pre .0 .train, c .before .before .before .before .before .pre .0 .place)
 
-add-t14 : tie.Need-add-t14
-add-t14 c = omega (arith, c .before .before .before .before .pre .0 .minute, c .before .at .ensures, c .before .before .before .before .pre .1 .words (1264 + (c .before .before .before .before .args .k * 128 + c .before .before .before .before .args .e)))
+mul-t13 : tie.Need-mul-t13
+mul-t13 c = omega (arith, c .before .before .before .before .before .pre .0 .train, c .before .before .before .before .before .pre .0 .place)
+
+add-t12 : tie.Need-add-t12
+add-t12 c = omega (arith, c .before .before .before .before .before .pre .0 .train, c .before .before .before .before .before .pre .0 .place)
 
 add-t15 : tie.Need-add-t15
-add-t15 c = omega (arith, c .before .before .before .before .pre .0 .train, c .before .before .before .before .pre .0 .place, c .before .before .before .before .pre .0 .minute, c .before .at .ensures, c .before .before .before .before .pre .1 .words (1264 + (c .before .before .before .before .args .k * 128 + c .before .before .before .before .args .e)))
+add-t15 c = omega (arith, c .before .before .before .before .before .pre .0 .minute, c .before .before .at .ensures, c .before .before .before .before .before .pre .1 .words (1264 + (c .before .before .before .before .before .args .k * 128 + c .before .before .before .before .before .args .e)))
 
-mul-t16 : tie.Need-mul-t16
-mul-t16 c = omega (arith, c .before .before .before .before .pre .0 .train)
+add-t16 : tie.Need-add-t16
+add-t16 c = omega (arith, c .before .before .before .before .before .pre .0 .train, c .before .before .before .before .before .pre .0 .place, c .before .before .before .before .before .pre .0 .minute, c .before .before .at .ensures, c .before .before .before .before .before .pre .1 .words (1264 + (c .before .before .before .before .before .args .k * 128 + c .before .before .before .before .before .args .e)))
 
 mul-t17 : tie.Need-mul-t17
-mul-t17 c = omega arith
+mul-t17 c = omega (arith, c .before .before .before .before .before .pre .0 .train)
 
-add-t18 : tie.Need-add-t18
-add-t18 c = omega (arith, c .before .before .before .before .pre .0 .train)
+mul-t18 : tie.Need-mul-t18
+mul-t18 c = omega arith
 
 add-t19 : tie.Need-add-t19
-add-t19 c = omega (arith, c .before .before .before .before .pre .0 .train)
+add-t19 c = omega (arith, c .before .before .before .before .before .pre .0 .train)
 
 add-t20 : tie.Need-add-t20
-add-t20 c = omega (arith, c .before .before .before .before .pre .0 .minute, c .at2 .ensures, c .before .before .before .before .pre .1 .words 2)
+add-t20 c = omega (arith, c .before .before .before .before .before .pre .0 .train)
 
 add-t21 : tie.Need-add-t21
-add-t21 c = omega (arith, c .before .before .before .before .pre .0 .train, c .before .before .before .before .pre .0 .minute, c .at2 .ensures, c .before .before .before .before .pre .1 .words 2)
+add-t21 c = omega (arith, c .before .before .before .before .before .pre .0 .minute, c .before .at2 .ensures, c .before .before .before .before .before .pre .1 .words 2)
+
+add-t22 : tie.Need-add-t22
+add-t22 c = omega (arith, c .before .before .before .before .before .pre .0 .train, c .before .before .before .before .before .pre .0 .minute, c .before .at2 .ensures, c .before .before .before .before .before .pre .1 .words 2)
 
 returns : tie.Need-returns
 unfolding jobOf
-returns c = simp (c .before .before .capacity .ensures, c .before .at .ensures, c .at2 .ensures)
+returns c = simp (c .before .before .before .capacity .ensures, c .before .before .at .ensures, c .before .at2 .ensures, c .at3 .ensures)
 
 pub assign-spec : {M : Type 1} → statement M
 assign-spec =
@@ -75,15 +81,17 @@ assign-spec =
     add-at-2
     at-requires
     at-requires-2
-    mul-t12
-    mul-t10
-    add-t11
-    add-t14
+    add-at-3
+    at-requires-3
+    mul-t11
+    mul-t13
+    add-t12
     add-t15
-    mul-t16
+    add-t16
     mul-t17
-    add-t18
+    mul-t18
     add-t19
     add-t20
     add-t21
+    add-t22
     returns)

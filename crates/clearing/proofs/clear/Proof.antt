@@ -21,7 +21,7 @@ returns : tie.Need-returns
 returns c =
     let s = c .before .before .before .before .before .args in
     let p = c .before .before .before .before .before .pre in
-    clear-still (s .tables .now) (s .t) (s .w) (s .rows .now) (s .notes .now) (p .0) (p .1) (p .3) (c .if1 .taken)
+    clear-still (s .tables .now) (s .t) (s .w) (s .rows .now) (s .notes .now) (p .0) (p .1) (p .3) (p .4) (c .if1 .taken)
 
 sweep-requires : tie.Need-sweep-requires
 sweep-requires c κs = search needs
@@ -39,7 +39,7 @@ returns-2 : tie.Need-returns-2
 returns-2 c =
     let s = c .before .before .before .before .before .before .before .before .before .before .before .before .args in
     let p = c .before .before .before .before .before .before .before .before .before .before .before .before .pre in
-    clear-done (s .tables .now) (s .t) (s .w) (s .rows .now) (s .notes .now) (p .0) (p .1) (p .3) (c .before .before .before .before .sweep .result) _ _ (omega (arith, c .before .before .before .rows)) (c .before .before .before .before .sweep .ensures .1) (c .before .before .before .before .sweep .ensures .0 .few) (c .before .before .before .before .sweep .ensures .0 .list)
+    clear-done (s .tables .now) (s .t) (s .w) (s .rows .now) (s .notes .now) (p .0) (p .1) (p .3) (p .4) (c .before .before .before .before .sweep .result) _ _ (omega (arith, c .before .before .before .rows)) (c .before .before .before .before .sweep .ensures .1) (c .before .before .before .before .sweep .ensures .0 .few) (c .before .before .before .before .sweep .ensures .0 .list)
 
 pub clear-spec : {M : Type 1} → statement M
 clear-spec =

@@ -16,17 +16,17 @@ use Rattle.clearing.proofs.close_up.Tie as tie
 use Rattle.clearing.proofs.close_up.Reads as reads
 use Rattle.clearing.proofs.close_up.Lts as lts
 use Rattle.rows.proofs.ended.Reads as ended-reads
-use Rattle.waiting.proofs.tell_all.Reads as tell-all-reads
+use Rattle.waiting.proofs.tell_left.Reads as tell-left-reads
 
 abbrev Inv-loop : tie.InvT-loop
-Inv-loop rows₀ n notes₀ t i₀ j₀ rows notes i j = (j ≤ i) × (i ≤ n) × Closing t i rows₀ j rows × Leaves t (rowsIn i rows₀) notes₀ notes × (length notes ≡ length notes₀) × (length rows ≡ length rows₀)
+Inv-loop rows₀ n tables notes₀ t i₀ j₀ rows notes i j = (j ≤ i) × (i ≤ n) × Closing t i rows₀ j rows × Leaves tables t (rowsIn i rows₀) notes₀ notes × (length notes ≡ length notes₀) × (length rows ≡ length rows₀)
 
 abbrev μ-loop : tie.MeasureT-loop
-μ-loop rows₀ n notes₀ t i₀ j₀ rows notes i j = n - i
+μ-loop rows₀ n tables notes₀ t i₀ j₀ rows notes i j = n - i
 
 loop-holds : tie.Need-loop-holds Inv-loop μ-loop
 unfolding rowsOf
-loop-holds c = let s = c .before .before .args in (omega arith, omega arith, closing-none (s .t) (s .rows .now), leaves-none (s .t) (s .notes .now) (c .before .before .pre .1), refl, refl)
+loop-holds c = let s = c .before .before .before .args in (omega arith, omega arith, closing-none (s .t) (s .rows .now), leaves-none (s .tables .now) (s .t) (s .notes .now) (c .before .before .before .pre .1), refl, refl)
 
 mul-at : tie.Need-mul-at Inv-loop μ-loop
 mul-at c = search needs
@@ -49,8 +49,8 @@ slice-read-c c = search needs
 ended-requires : tie.Need-ended-requires Inv-loop μ-loop
 ended-requires c κs = search needs
 
-tell-all-requires : tie.Need-tell-all-requires Inv-loop μ-loop
-tell-all-requires c κs = (c .before .before .before .before .before .before .loop .inv .3 .flagged .long, omega arith)
+tell-left-requires : tie.Need-tell-left-requires Inv-loop μ-loop
+tell-left-requires c κs = (c .before .before .before .before .before .before .loop .inv .3 .flagged .long, omega arith, c .before .before .before .before .before .before .before .before .before .before .pre .2)
 
 mul-rows : tie.Need-mul-rows Inv-loop μ-loop
 mul-rows c = search needs
@@ -86,19 +86,20 @@ loop-less c = search needs
 
 loop-again : tie.Need-loop-again Inv-loop μ-loop
 loop-again c =
-    let s = c .before .before .before .before .before .before .before .before .args in
+    let s = c .before .before .before .before .before .before .before .before .before .args in
+    let pairs = c .before .before .before .before .before .before .before .before .before .pre .2 in
     let at = c .before .before .before .before .before .loop in
     let long : at .i * 2 + 2 ≤ length (s .rows .now) = omega arith in
     ⊎-elim
     (λ w.
     let gone = sym (c .before .ended .ensures) ∙ w .0 .taken in
-    let told = leaves-gone (at .inv .2) (s .notes .now) (at .notes) long (at .inv .3) gone in
+    let told = leaves-gone (s .tables .now) pairs (at .inv .2) (s .notes .now) (at .notes) long (at .inv .3) gone in
     let same = told .flagged .long ∙ sym (at .inv .3 .flagged .long) ∙ at .inv .4 in
     rw (w .5, w .6, w .7, w .2 .ensures) (omega arith, omega arith, closing-gone (at .inv .2) long (ap not gone), told, same, at .inv .5))
     (λ w.
     let stays = sym (c .before .ended .ensures) ∙ w .0 .left in
     let kept = closing-kept (at .inv .2) long (ap not stays) in
-    let told = leaves-kept (at .inv .2) (s .notes .now) (at .notes) long (at .inv .3) stays in
+    let told = leaves-kept (s .tables .now) pairs (at .inv .2) (s .notes .now) (at .notes) long (at .inv .3) stays in
     let same = closing-long (s .t) (at .i + 1) (at .j + 1) (s .rows .now) _ (omega arith) kept in
     rw (w .1, w .2, w .3) (omega arith, omega arith, kept, told, at .inv .4, same))
     (c .if1 .came)
@@ -112,7 +113,7 @@ same-length-2 c = c .before .loop .inv .4
 returns : tie.Need-returns Inv-loop μ-loop
 returns c =
     let at = c .before .loop in
-    let e : at .i ≡ c .before .before .before .before .args .n = omega arith in
+    let e : at .i ≡ c .before .before .before .before .before .args .n = omega arith in
     (rw (← e) (at .inv .2), rw (← e) (at .inv .3))
 
 pub close-up-spec : {M : Type 1} → statement M
@@ -129,7 +130,7 @@ close-up-spec =
     mul-c
     slice-read-c
     ended-requires
-    tell-all-requires
+    tell-left-requires
     mul-rows
     mul-rows-2
     slice-write-rows

@@ -40,7 +40,7 @@ close-up-requires c κs = search needs
 
 add-result : tie.Need-add-result
 add-result c =
-    let s = c .before .before .before .before .before .before .before .before .before .before .before .args in
+    let s = c .before .before .before .before .before .before .before .before .before .before .before .before .args in
     let f = c .before .before .before .before .before .before .before .first-ended .result in
     let part = partOf f (s .n) (s .rows .now) in
     let long = part-long f (s .n) (s .rows .now) (omega arith) (omega arith) in
@@ -54,11 +54,11 @@ same-length-2 c = search needs
 
 returns : tie.Need-returns
 returns c =
-    let s = c .before .before .before .before .before .before .before .before .before .before .before .args in
+    let s = c .before .before .before .before .before .before .before .before .before .before .before .before .args in
     let first = c .before .before .before .before .before .before .before .first-ended in
     let closed = c .before .before .before .before .close-up in (
       sweep-done (s .t) (s .n) (first .result) (closed .result) (s .rows .now) (closed .last .0) (omega arith) (first .ensures .1) (closed .ensures .0),
-      leaves-all (s .t) (s .n) (first .result) (s .rows .now) (s .notes .now) (closed .last .1 .1 .0) (omega arith) (omega arith) (first .ensures .1) (closed .ensures .1),
+      leaves-all (s .tables .now) (s .t) (s .n) (first .result) (s .rows .now) (s .notes .now) (closed .last .1 .1 .1 .0) (omega arith) (omega arith) (first .ensures .1) (closed .ensures .1),
     )
 
 pub sweep-spec : {M : Type 1} → statement M

@@ -20,16 +20,16 @@ slice-read-if1 : tie.Need-slice-read-if1
 slice-read-if1 c = search needs
 
 returns : tie.Need-returns
-returns c = (c .before .before .before .before .before .pre .1, wake-none (c .before .before .before .before .before .args .tables .now) (c .before .before .before .before .before .args .t) (c .before .before .before .before .before .args .notes .now) (rowsOf (take (c .before .before .before .before .before .args .w) (c .before .before .before .before .before .args .rows .now))) (c .before .before .before .before .before .pre .4) (c .before .before .before .before .before .pre .5) (c .before .before .before .before .before .pre .1) (c .if1 .taken))
+returns c = (c .before .before .before .before .before .pre .1, wake-none (c .before .before .before .before .before .args .tables .now) (c .before .before .before .before .before .args .t) (c .before .before .before .before .before .args .notes .now) (rowsOf (take (c .before .before .before .before .before .args .w) (c .before .before .before .before .before .args .rows .now))) (c .before .before .before .before .before .pre .3) (c .before .before .before .before .before .pre .4) (c .before .before .before .before .before .pre .5) (c .before .before .before .before .before .pre .1) (c .if1 .taken))
 
 mark-requires : tie.Need-mark-requires
-mark-requires c κs = (omega (arith, c .before .before .before .before .before .before .pre .0 .within), c .before .before .before .before .before .before .pre .1, c .before .before .before .before .before .before .pre .3, trains-low (c .before .before .before .before .before .before .args .tables .now) (c .before .before .before .before .before .before .args .t) (c .before .before .before .before .before .before .args .w) (c .before .before .before .before .before .before .args .rows .now) (c .before .before .before .before .before .before .args .notes .now) (c .before .before .before .before .before .before .pre .0) (c .before .before .before .before .before .before .pre .1) (c .before .before .before .before .before .before .pre .4))
+mark-requires c κs = (omega (arith, c .before .before .before .before .before .before .pre .0 .within), c .before .before .before .before .before .before .pre .1, c .before .before .before .before .before .before .pre .3, trains-low (c .before .before .before .before .before .before .args .tables .now) (c .before .before .before .before .before .before .args .t) (c .before .before .before .before .before .before .args .w) (c .before .before .before .before .before .before .args .rows .now) (c .before .before .before .before .before .before .args .notes .now) (c .before .before .before .before .before .before .pre .0) (c .before .before .before .before .before .before .pre .1) (c .before .before .before .before .before .before .pre .3) (c .before .before .before .before .before .before .pre .4))
 
 same-length : tie.Need-same-length
 same-length c = search needs
 
 returns-2 : tie.Need-returns-2
-returns-2 c = (c .before .before .mark .ensures .flagged, wake-done (c .before .before .before .before .before .before .before .before .before .args .tables .now) (c .before .before .before .before .before .before .before .before .before .args .t) (c .before .before .before .before .before .before .before .before .before .args .w) (c .before .before .before .before .before .before .before .before .before .args .rows .now) (c .before .before .before .before .before .before .before .before .before .args .notes .now) (c .before .before .before .before .before .before .before .before .before .pre .0) (c .before .before .before .before .before .before .before .before .before .pre .1) (c .before .before .before .before .before .before .before .before .before .pre .4) (c .before .before .before .before .before .before .before .before .before .pre .5) _ (c .before .before .mark .ensures))
+returns-2 c = (c .before .before .mark .ensures .flagged, wake-done (c .before .before .before .before .before .before .before .before .before .args .tables .now) (c .before .before .before .before .before .before .before .before .before .args .t) (c .before .before .before .before .before .before .before .before .before .args .w) (c .before .before .before .before .before .before .before .before .before .args .rows .now) (c .before .before .before .before .before .before .before .before .before .args .notes .now) (c .before .before .before .before .before .before .before .before .before .pre .0) (c .before .before .before .before .before .before .before .before .before .pre .1) (c .before .before .before .before .before .before .before .before .before .pre .3) (c .before .before .before .before .before .before .before .before .before .pre .4) (c .before .before .before .before .before .before .before .before .before .pre .5) _ (c .before .before .mark .ensures))
 
 pub wake-spec : {M : Type 1} → statement M
 wake-spec =

@@ -24,7 +24,7 @@ returns c =
 clear-requires : tie.Need-clear-requires
 clear-requires c κs =
     let p = c .before .before .before .before .before .before .before .before .before .before .before .pre .1 in
-    (p .1 .0, p .1 .1, p .0 .0, p .1 .2 (omega (arith, p .1 .0 .within, c .before .before .if1 .left)))
+    (p .1 .0, p .1 .1, p .0 .0, p .0 .2, p .1 .2 (omega (arith, p .1 .0 .within, c .before .before .if1 .left)))
 
 wake-requires : tie.Need-wake-requires
 wake-requires c κs =

@@ -34,10 +34,12 @@ slice-reshare-prefix-walk : tie.Need-slice-reshare-prefix-walk
 slice-reshare-prefix-walk c = search needs
 
 slice-aggregate-walk : tie.Need-slice-aggregate-walk
-slice-aggregate-walk c = sym (length-take-le (c .before .before .before .before .before .before .before .before .before .meet .result) (c .before .before .before .before .before .before .before .before .before .meet .last .1 .1 .1 .0) (c .before .before .before .before .before .before .before .before .before .meet .ensures .few))
+slice-aggregate-walk c = sym (length-take-le (c .before .before .before .before .before .before .before .before .before .meet .result .all) (c .before .before .before .before .before .before .before .before .before .meet .last .1 .1 .1 .0) (c .before .before .before .before .before .before .before .before .before .meet .ensures .few))
 
 walk-requires : tie.Need-walk-requires
-walk-requires c κs = search needs
+walk-requires c κs =
+    let met = c .before .before .before .before .before .before .before .before .before .before .before .before .meet in
+    (search needs, search needs, search needs, search needs, search needs, search needs, search needs, search needs, omega (arith, met .ensures .some, length-take-le (met .result .all) (met .last .1 .1 .1 .0) (met .ensures .few)))
 
 enter-requires : tie.Need-enter-requires
 enter-requires c κs =

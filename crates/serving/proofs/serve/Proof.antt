@@ -5,9 +5,10 @@ use Prim.Native.Nat.{_/_}
 use native.Mathlib.Omega.{arith}
 use lib.ListN.{length}
 use Rattle.cut.specs.declared.Pieces.{Pieces}
-use Rattle.cut.specs.Cut.{carried}
+use Rattle.cut.specs.Cut.{cutBy}
 use Rattle.cut.specs.Written.{wrote-held-length}
 use Rattle.quiet.specs.Parts.{sub-or-left, sub-or-right}
+use Rattle.serving.specs.Pass.{metIn}
 use Rattle.serving.specs.Pass.Went.{moves}
 use Rattle.serving.specs.Outputs.{pieces-count, pieces-over, pieces-fit, pieces-went, moved-stays}
 use borrow.Author.Needs.{needs}
@@ -15,17 +16,17 @@ use Rattle.serving.proofs.serve.Statement.{statement}
 use Rattle.serving.proofs.serve.Tie as tie
 use Rattle.serving.proofs.serve.Reads as reads
 use Rattle.serving.proofs.serve.Lts as lts
-use Rattle.cut.proofs.carry.Reads as carry-reads
+use Rattle.serving.proofs.pieces.Reads as pieces-reads
 use Rattle.rows.proofs.hold.Reads as hold-reads
 use Rattle.serving.proofs.moved_with.Reads as moved-with-reads
 
-carry-requires : tie.Need-carry-requires
-carry-requires c κs = (record { count = omega arith; heldLong = omega arith; enteringLong = omega arith }, omega arith)
+pieces-requires : tie.Need-pieces-requires
+pieces-requires c κs = (record { count = omega arith; heldLong = omega arith; enteringLong = omega arith }, search needs)
 
 add-if1 : tie.Need-add-if1
 add-if1 c =
     let s = c .before .before .before .before .before .before .before .before .before .before .before .before .args in
-    omega (arith, pieces-count (length (s .rows .now) / 2) (record { held = 0; entering = s .a }) (carried (s .q .cap) (s .met .now) 0 (s .c)) (record { count = omega arith; heldLong = omega arith; enteringLong = omega arith }) refl (c .before .before .before .before .before .carry .ensures))
+    omega (arith, pieces-count (length (s .rows .now) / 2) (record { held = 0; entering = s .a }) (cutBy (metIn (s .q .cap) (s .first) (s .met .now)) (s .c)) (record { count = omega arith; heldLong = omega arith; enteringLong = omega arith }) refl (c .before .before .before .before .before .pieces .ensures))
 
 same-length : tie.Need-same-length
 same-length c = search needs
@@ -36,12 +37,12 @@ same-length-2 c = search needs
 returns : tie.Need-returns
 returns c =
     let s = c .before .before .before .before .before .before .before .before .before .before .before .before .before .args in
-    (pieces-over (length (s .rows .now) / 2) (record { held = 0; entering = s .a }) (carried (s .q .cap) (s .met .now) 0 (s .c)) (record { count = omega arith; heldLong = omega arith; enteringLong = omega arith }) refl (c .before .before .before .before .before .before .carry .ensures) (s .rows .now) (s .s) (s .d) (omega arith) (omega arith), (sub-or-left (s .m) (s .c), moves (sub-or-right (s .m) (s .c))))
+    (pieces-over (length (s .rows .now) / 2) (record { held = 0; entering = s .a }) (cutBy (metIn (s .q .cap) (s .first) (s .met .now)) (s .c)) (record { count = omega arith; heldLong = omega arith; enteringLong = omega arith }) refl (c .before .before .before .before .before .before .pieces .ensures) (s .rows .now) (s .s) (s .d) (omega arith) (omega arith), (sub-or-left (s .m) (s .c), moves (sub-or-right (s .m) (s .c))))
 
 hold-requires : tie.Need-hold-requires
 hold-requires c κs =
     let s = c .before .before .before .before .before .before .before .before .before .before .before .before .before .before .before .args in
-    (omega (arith, pieces-count (length (s .rows .now) / 2) (record { held = 0; entering = s .a }) (carried (s .q .cap) (s .met .now) 0 (s .c)) (record { count = omega arith; heldLong = omega arith; enteringLong = omega arith }) refl (c .before .before .before .before .before .before .before .before .carry .ensures), wrote-held-length (c .before .before .before .before .before .before .before .before .carry .ensures)), search needs)
+    (omega (arith, pieces-count (length (s .rows .now) / 2) (record { held = 0; entering = s .a }) (cutBy (metIn (s .q .cap) (s .first) (s .met .now)) (s .c)) (record { count = omega arith; heldLong = omega arith; enteringLong = omega arith }) refl (c .before .before .before .before .before .before .before .before .pieces .ensures), wrote-held-length (c .before .before .before .before .before .before .before .before .pieces .ensures)), search needs)
 
 sub-moved-with : tie.Need-sub-moved-with
 sub-moved-with c = search needs
@@ -49,7 +50,7 @@ sub-moved-with c = search needs
 moved-with-requires : tie.Need-moved-with-requires
 moved-with-requires c κs =
     let s = c .before .before .before .before .before .before .before .before .before .before .before .before .before .before .before .before .before .before .before .before .args in
-    (omega (arith, pieces-count (length (s .rows .now) / 2) (record { held = 0; entering = s .a }) (carried (s .q .cap) (s .met .now) 0 (s .c)) (record { count = omega arith; heldLong = omega arith; enteringLong = omega arith }) refl (c .before .before .before .before .before .before .before .before .before .before .before .before .before .carry .ensures), wrote-held-length (c .before .before .before .before .before .before .before .before .before .before .before .before .before .carry .ensures)))
+    (omega (arith, pieces-count (length (s .rows .now) / 2) (record { held = 0; entering = s .a }) (cutBy (metIn (s .q .cap) (s .first) (s .met .now)) (s .c)) (record { count = omega arith; heldLong = omega arith; enteringLong = omega arith }) refl (c .before .before .before .before .before .before .before .before .before .before .before .before .before .pieces .ensures), wrote-held-length (c .before .before .before .before .before .before .before .before .before .before .before .before .before .pieces .ensures)))
 
 same-length-3 : tie.Need-same-length-3
 same-length-3 c = search needs
@@ -65,17 +66,17 @@ returns-2 c =
     let s = c .before .before .before .before .before .before .before .before .before .before .before .before .before .before .before .before .before .before .before .before .before .args in
     let room = length (s .rows .now) / 2 in
     let w : Pieces = record { held = 0; entering = s .a } in
-    let pieces = carried (s .q .cap) (s .met .now) 0 (s .c) in
-    let wrote = c .before .before .before .before .before .before .before .before .before .before .before .before .before .before .carry .ensures in
+    let pieces = cutBy (metIn (s .q .cap) (s .first) (s .met .now)) (s .c) in
+    let wrote = c .before .before .before .before .before .before .before .before .before .before .before .before .before .before .pieces .ensures in
     let some = c .before .before .before .before .before .before .before .before .if1 .left in
-    let m = moved-stays (c .before .before .before .before .before .before .before .before .before .before .before .before .before .before .carry .last .1 .0) (c .before .before .before .before .before .before .before .before .before .before .before .before .before .before .carry .result .held) _ _ _ (c .moved-with .ensures) (omega (arith, pieces-count room w pieces (record { count = omega arith; heldLong = omega arith; enteringLong = omega arith }) refl wrote, wrote-held-length wrote)) in
+    let m = moved-stays (c .before .before .before .before .before .before .before .before .before .before .before .before .before .before .pieces .last .1 .1 .0) (c .before .before .before .before .before .before .before .before .before .before .before .before .before .before .pieces .result .held) _ _ _ (c .moved-with .ensures) (omega (arith, pieces-count room w pieces (record { count = omega arith; heldLong = omega arith; enteringLong = omega arith }) refl wrote, wrote-held-length wrote)) in
     (pieces-fit room w pieces (record { count = omega arith; heldLong = omega arith; enteringLong = omega arith }) refl wrote (s .s) (s .d) some (omega arith) (c .before .before .before .before .before .hold .ensures), (m .0, pieces-went room w pieces (record { count = omega arith; heldLong = omega arith; enteringLong = omega arith }) refl wrote (s .s) (s .c) (c .moved-with .result) some (m .1)))
 
 pub serve-spec : {M : Type 1} → statement M
 serve-spec =
     tie.close
     (tie.spec
-    carry-requires
+    pieces-requires
     add-if1
     same-length
     same-length-2

@@ -8,7 +8,7 @@ use Rattle.theory_lists.specs.Every.{Every}
 use Rattle.rows.specs.Rows.{words, rowsOf, rowsIn, rowAt}
 use Rattle.theory_lists.specs.Writes.{put-length, put-fits}
 use Rattle.asking.specs.Ask.{stirsOf}
-use Rattle.serving.specs.Pass.{holdBy, enterBy, Went, Two}
+use Rattle.serving.specs.Pass.{holdBy, enterBy, metIn, Went, Two}
 use Rattle.serving.specs.Passing.{two-run, two-served, went-run, went-served, went-more}
 use Rattle.serving.specs.Outputs.{two-none, two-bounds}
 use borrow.Author.Needs.{needs}
@@ -21,14 +21,14 @@ use Rattle.rows.proofs.copy.Reads as copy-reads
 use Rattle.serving.proofs.serve.Reads as serve-reads
 
 abbrev Inv-loop : tie.InvT-loop
-Inv-loop src n met held₀ entering₀ rows₀ d key u q i₀ at₀ a₀ m₀ held entering rows i at a m =
+Inv-loop src n met first held₀ entering₀ rows₀ d key u q i₀ at₀ a₀ m₀ held entering rows i at a m =
     (i ≤ n)
-    × Two rows₀ d (words (each (holdBy (stirsOf key (q .minute) u) (q .cap) met) (rowsIn i src))) at rows entering₀ 0 (each (enterBy (stirsOf key (q .minute) u) (q .cap) met) (rowsIn i src)) a entering
+    × Two rows₀ d (words (each (holdBy (stirsOf key (q .minute) u) (metIn (q .cap) first met)) (rowsIn i src))) at rows entering₀ 0 (each (enterBy (stirsOf key (q .minute) u) (metIn (q .cap) first met)) (rowsIn i src)) a entering
     × (length held ≡ length held₀)
-    × Every (λ x. Went (holdBy (stirsOf key (q .minute) u) (q .cap) met x) (enterBy (stirsOf key (q .minute) u) (q .cap) met x) m x) (rowsIn i src)
+    × Every (λ x. Went (holdBy (stirsOf key (q .minute) u) (metIn (q .cap) first met) x) (enterBy (stirsOf key (q .minute) u) (metIn (q .cap) first met) x) m x) (rowsIn i src)
 
 abbrev μ-loop : tie.MeasureT-loop
-μ-loop src n met held₀ entering₀ rows₀ d key u q i₀ at₀ a₀ m₀ held entering rows i at a m = n - i
+μ-loop src n met first held₀ entering₀ rows₀ d key u q i₀ at₀ a₀ m₀ held entering rows i at a m = n - i
 
 loop-holds : tie.Need-loop-holds Inv-loop μ-loop
 unfolding words rowsOf
@@ -61,8 +61,8 @@ returns c =
     let l = c .before .before .before .before .before .before .before .loop in
     let x = c .before .before .before .before .before .next .ensures in
     let e : c .before .before .before .before .before .next .result ≡ s .n = omega arith in (
-      rw (← e) (two-run (stirsOf (s .key) (s .q .minute) (s .u)) (s .q .cap) (s .met .now) (l .i) (c .before .before .before .before .before .next .result) (s .src .now) (x .0) (omega (arith, x .1)) (x .2) (l .inv .1) (c .before .before .before .copy .ensures)),
-      rw (← e) (went-run (stirsOf (s .key) (s .q .minute) (s .u)) (s .q .cap) (s .met .now) (l .m) (l .i) (c .before .before .before .before .before .next .result) (s .src .now) (x .0) (omega (arith, x .1)) (x .2) (l .inv .3)),
+      rw (← e) (two-run (stirsOf (s .key) (s .q .minute) (s .u)) (metIn (s .q .cap) (s .first) (s .met .now)) (l .i) (c .before .before .before .before .before .next .result) (s .src .now) (x .0) (omega (arith, x .1)) (x .2) (l .inv .1) (c .before .before .before .copy .ensures)),
+      rw (← e) (went-run (stirsOf (s .key) (s .q .minute) (s .u)) (metIn (s .q .cap) (s .first) (s .met .now)) (l .m) (l .i) (c .before .before .before .before .before .next .result) (s .src .now) (x .0) (omega (arith, x .1)) (x .2) (l .inv .3)),
     )
 
 mul-s : tie.Need-mul-s Inv-loop μ-loop
@@ -90,7 +90,7 @@ serve-requires : tie.Need-serve-requires Inv-loop μ-loop
 serve-requires c κs =
     let b = two-bounds (c .before .before .before .before .before .before .before .before .before .before .before .before .loop .inv .1) in
     let p = c .before .before .before .before .before .before .before .before .copy .ensures in
-    (omega (arith, b .rows-length, put-length p), omega (arith, b .rows-length, put-length p), omega (arith, b .rows-length, put-length p), omega (arith, b .rows-length, b .entering-length, put-length p), put-fits p, omega (arith, b .rows-length, b .few, put-length p))
+    (omega (arith, b .rows-length, put-length p), omega (arith, b .rows-length, put-length p), omega (arith, b .rows-length, put-length p), omega (arith, b .rows-length, b .entering-length, put-length p), put-fits p, omega (arith, b .rows-length, b .few, put-length p), search needs)
 
 add-i : tie.Need-add-i Inv-loop μ-loop
 add-i c = record { fits = omega (arith, c .before .before .before .before .before .before .before .before .before .before .before .before .before .before .before .before .before .next .ensures .1, c .before .before .before .before .before .before .before .before .before .before .before .before .if1 .left, c .before .before .before .before .before .before .before .before .before .before .before .before .before .before .before .before .before .before .before .before .before .before .before .before .before .fits .n) }
@@ -109,9 +109,9 @@ loop-again c =
     let long : j * 2 + 2 ≤ length (s .src .now) = omega (arith, less, c .before .before .before .before .before .before .before .before .before .before .before .before .before .before .before .before .before .before .before .before .before .before .before .before .before .pre .0) in
     let here = x .3 less in (
       omega (arith, less),
-      two-served test (s .q .cap) (s .met .now) j (s .src .now) long here (two-run test (s .q .cap) (s .met .now) (l .i) j (s .src .now) (x .0) (omega (arith, long)) (x .2) (l .inv .1) (c .before .before .before .before .before .before .before .before .before .before .before .before .before .before .before .copy .ensures)) (c .before .before .before .before .before .before .serve .ensures .0),
+      two-served test (metIn (s .q .cap) (s .first) (s .met .now)) j (s .src .now) long here (two-run test (metIn (s .q .cap) (s .first) (s .met .now)) (l .i) j (s .src .now) (x .0) (omega (arith, long)) (x .2) (l .inv .1) (c .before .before .before .before .before .before .before .before .before .before .before .before .before .before .before .copy .ensures)) (c .before .before .before .before .before .before .serve .ensures .0),
       omega arith,
-      went-more test (s .q .cap) (s .met .now) j (s .src .now) (l .m) (c .before .before .before .before .before .before .serve .result .moved) long (c .before .before .before .before .before .before .serve .ensures .1 .0) (went-run test (s .q .cap) (s .met .now) (l .m) (l .i) j (s .src .now) (x .0) (omega (arith, long)) (x .2) (l .inv .3)) (went-served test (s .q .cap) (s .met .now) (rowAt (s .src .now) j) (c .before .before .before .before .before .before .serve .result .moved) here (c .before .before .before .before .before .before .serve .ensures .1 .1)),
+      went-more test (metIn (s .q .cap) (s .first) (s .met .now)) j (s .src .now) (l .m) (c .before .before .before .before .before .before .serve .result .moved) long (c .before .before .before .before .before .before .serve .ensures .1 .0) (went-run test (metIn (s .q .cap) (s .first) (s .met .now)) (l .m) (l .i) j (s .src .now) (x .0) (omega (arith, long)) (x .2) (l .inv .3)) (went-served test (metIn (s .q .cap) (s .first) (s .met .now)) (rowAt (s .src .now) j) (c .before .before .before .before .before .before .serve .result .moved) here (c .before .before .before .before .before .before .serve .ensures .1 .1)),
     )
 
 same-length-4 : tie.Need-same-length-4 Inv-loop μ-loop
