@@ -20,10 +20,10 @@ use Rattle.laying.specs.Steps.{Fits, Start, runOf}
 
 -- ---- the files and the arguments
 
-told-fits : {n : ℕ} → n ≤ 17 → (r : Refusal) → Told n r → Fits (r .number) (r .file) (r .place)
-told-fits h r t = record {
+told-fits : (r : Refusal) → Told r → Fits (r .number) (r .file) (r .place)
+told-fits r t = record {
   some = t .given .0;
-  number = omega (arith, t .few-numbers);
+  number = omega (arith, t .of-files .most);
   file = omega (arith, t .two-files);
   place = omega (arith, t .in-reach);
 }
@@ -35,7 +35,7 @@ module _ (cs bk : List ℕ) where
     goes : (C : Case) → files cs bk ≡ answer C → P C → R ≡ answer C → Judged P R
 
   pub refused-files : {P : Case → Type 0} {R : Result Case} (r : Refusal) → files cs bk ≡ refused r → R ≡ refused r → Judged P R
-  refused-files r e q = stopped r (told-fits (omega arith) r (files-told cs bk r e)) q
+  refused-files r e q = stopped r (told-fits r (files-told cs bk r e)) q
 
   abbrev In : ℕ → Case → Type 0
   In m C = m ≤ C .head .lastMinute

@@ -31,7 +31,7 @@ pub extern "C" fn lampreysong_single<'a>(
     let Files::Sound(s) = f else {
         return laying::refused_files(f);
     };
-    let mut tables = [0u64; 2288];
+    let mut tables = [0u64; 2352];
     file_plan::fill(case, book, s, &mut tables);
     let m = single::arrival(&tables, choice, train);
     laying::answered(m)
@@ -56,7 +56,7 @@ pub extern "C" fn lampreysong_run<'a>(
     }
     let m = stop as usize;
     let f = file_arguments::for_stop(case, book, m);
-    let mut tables = [0u64; 2288];
+    let mut tables = [0u64; 2352];
     let mut ws = [0u64; 5760];
     laying::lay(case, book, f, m, &mut tables, &mut ws, rows, weights)
 }
@@ -83,7 +83,7 @@ pub extern "C" fn lampreysong_listing<'a>(
     }
     let f = file_lookup::read_files(case, book);
     let last = file_fields::word(case, 3);
-    let mut tables = [0u64; 2288];
+    let mut tables = [0u64; 2352];
     let mut ws = [0u64; 5760];
     let a = laying::lay(case, book, f, last, &mut tables, &mut ws, rows, weights);
     if a.refusal != 0 {
@@ -113,7 +113,7 @@ pub extern "C" fn lampreysong_figures<'a>(
     }
     let f = file_arguments::for_train(case, book, train as usize);
     let last = file_fields::word(case, 3);
-    let mut tables = [0u64; 2288];
+    let mut tables = [0u64; 2352];
     let mut ws = [0u64; 5760];
     let a = laying::lay(case, book, f, last, &mut tables, &mut ws, rows, weights);
     if a.refusal != 0 {

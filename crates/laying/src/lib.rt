@@ -85,7 +85,7 @@ fn run_to<'a>(
     ws: &mut [u64],
 ) -> usize
     requires { ⌜ Begins (now case) (now book) stop s ⌝ }
-    requires { ⌜ (length (now tables) ≡ 2288) × (length (now list) ≡ 2050) × (length (now ws) ≡ 5760) × (now ws ≡ replicate 5760 0) ⌝ }
+    requires { ⌜ (length (now tables) ≡ 2352) × (length (now list) ≡ 2050) × (length (now ws) ≡ 5760) × (now ws ≡ replicate 5760 0) ⌝ }
     ensures { λ r. ⌜ ((C : rulesFiles.Case) → rulesFiles.files (now (case .entry)) (now (book .entry)) ≡ answer C → Ran C stop r (now (list .exit)) (now (ws .exit)) (now (tables .exit))) ⌝ }
 {
     file_plan::fill(case, book, s, tables);
@@ -110,7 +110,7 @@ pub fn lay<'a>(
     weights: &mut [u8],
 ) -> Answer
     requires { ⌜ Start (now case) (now book) stop f ⌝ }
-    requires { ⌜ (length (now tables) ≡ 2288) × (length (now ws) ≡ 5760) × (16384 ≤ length (now rows)) × (40320 ≤ length (now weights)) × (now ws ≡ replicate 5760 0) ⌝ }
+    requires { ⌜ (length (now tables) ≡ 2352) × (length (now ws) ≡ 5760) × (16384 ≤ length (now rows)) × (40320 ≤ length (now weights)) × (now ws ≡ replicate 5760 0) ⌝ }
     ensures { λ r. ⌜ Laid (runOf (now (case .entry)) (now (book .entry)) stop f) (now (rows .entry)) (now (weights .entry)) r (now (tables .exit)) (now (ws .exit)) (now (rows .exit)) (now (weights .exit)) ⌝ }
 {
     let Files::Sound(s) = f else {

@@ -163,7 +163,7 @@ module _ (C : Case) (sound : Sound C) where
   serve-plan : (t : ℕ) (e : Place) (b : List Mark) (a : Mark) (c : List Mark) (v : List (Arrival Mark)) → asks C t e a ≡ true → Kept (b ++ (a ∷ c)) v
       → Kept (servedList (serveTrain C t e (b ++ (a ∷ c)) a) b c) (v ++ serveTrain C t e (b ++ (a ∷ c)) a .arrived)
   unfolding serveTrain
-  serve-plan t e b a c v ask h = go (enters C e (b ++ (a ∷ c)))
+  serve-plan t e b a c v ask h = go (enters C e (a .train) (b ++ (a ∷ c)))
     where
       own : OnPlan a
       own = every-right OnPlan b (a ∷ c) (h .0) .0

@@ -141,7 +141,9 @@ module _ {A : Type 0} (asked : ℕ) (value : Run → A) (text : Run → List ℕ
       number-is g q = ap (λ (z : Refusal). z .number) (refused-refused g f (sym q ∙ e)) ∙ n
 
       go : Decided cs bk arguments stop r → Full asked m cs bk arguments stop
-      go (by-files g a q) = absurd (omega (arith, number-is g q, files-told cs bk g a .few-numbers))
+      go (by-files g a q) =
+          let full = number-is g q in
+          absurd (omega (arith, full, files-told cs bk g a .of-files .not-of-calls (omega (arith, full))))
       go (by-arguments C a b q) = absurd (other C (number-is (refusalOf (arguments C)) q))
       go (by-room C a b p q) = record { of = C; suffices = h; accepted = a; sound = b; passed = p }
       go (by-run C a b p q) = absurd (refused-answer f _ (sym e ∙ q))
