@@ -1,4 +1,4 @@
-//! Judging the body of a field whose tag, order and length are sound: refusals 5 to 10, lowest first.
+//! Judging the body of a field whose tag, order and length are sound: refusals 5 to 10 and 18, lowest first.
 
 use crate::reader::*;
 use crate::refusal::*;
@@ -7,6 +7,7 @@ pub const MOST_STATIONS: usize = 24;
 pub const MOST_TRACKS: usize = 40;
 pub const MOST_TRAINS: usize = 7;
 pub const MOST_TABLES: usize = 8;
+pub const MOST_COUPLES: usize = 20;
 
 /// A big-endian number.
 pub fn number(bytes: &[u8]) -> u32 {
@@ -22,7 +23,8 @@ pub fn take_field(case: &mut Case, tag: u8, body: &[u8], offset: usize) -> Resul
         STATION_TAG => take_station(case, body),
         TRACK_TAG => take_track(case, body),
         TRAIN_TAG => take_train(case, body, offset),
-        _ => take_table(&mut case.tables, body),
+        TABLE_TAG => take_table(&mut case.tables, body),
+        _ => take_couple(case, body),
     }
 }
 
@@ -166,4 +168,32 @@ pub fn read_delay(bytes: &[u8]) -> Delay {
         minutes: u32::from(bytes[0]),
         weight: u64::from(bytes[1]),
     }
+}
+
+/// A couple: two known tracks whose ends mirror, of equal capacity, neither of them in an earlier couple.
+fn take_couple(case: &mut Case, body: &[u8]) -> Result<(), u8> {
+    let couple = [usize::from(body[0]), usize::from(body[1])];
+    if case.couples.len() == MOST_COUPLES {
+        return Err(COUNT);
+    }
+    let known = couple.iter().all(|track| *track < case.tracks.len());
+    if !known || couple.iter().any(|track| is_coupled(case, *track)) {
+        return Err(COUPLE);
+    }
+    let (one, other) = (&case.tracks[couple[0]], &case.tracks[couple[1]]);
+    if !mirrors(one, other) || one.capacity != other.capacity {
+        return Err(COUPLE);
+    }
+    case.couples.push(couple);
+    Ok(())
+}
+
+/// Whether some couple has the track.
+pub fn is_coupled(case: &Case, track: usize) -> bool {
+    case.couples.iter().any(|couple| couple.contains(&track))
+}
+
+/// Whether one track leads from a to b and the other from b to a.
+pub fn mirrors(one: &Track, other: &Track) -> bool {
+    one.from == other.to && one.to == other.from
 }

@@ -75,9 +75,36 @@ pub struct Cut {
 
 /// Cuts an asking cover at an element of this capacity that holds these entries' covers, in list order.
 pub fn cut(asking: &Cover, capacity: usize, to_meet: &[Cover]) -> Cut {
+    cut_coupled(asking, &[], capacity, to_meet)
+}
+
+/// Cuts an asking cover at a coupled track of this capacity: first it meets the partner's entries, then the track's own, both in list order.
+pub fn cut_coupled(
+    asking: &Cover,
+    on_partner: &[Cover],
+    capacity: usize,
+    to_meet: &[Cover],
+) -> Cut {
     let mut done = Cut::default();
-    carry(asking.clone(), 0, capacity, to_meet, &mut done);
+    pass(asking.clone(), on_partner, capacity, to_meet, &mut done);
     done
+}
+
+/// Carries a piece past the partner's entries: what is inside one is held at once, and what is outside all goes on with count 0.
+fn pass(piece: Cover, on_partner: &[Cover], capacity: usize, to_meet: &[Cover], done: &mut Cut) {
+    let (met, rest) = match on_partner.split_first() {
+        None => return carry(piece, 0, capacity, to_meet, done),
+        Some(split) => split,
+    };
+    match common(&piece, met) {
+        None => pass(piece, rest, capacity, to_meet, done),
+        Some(inside) => {
+            done.held.push(inside.clone());
+            for outside in outside_pieces(&piece, &inside) {
+                pass(outside, rest, capacity, to_meet, done);
+            }
+        }
+    }
 }
 
 /// Carries a piece with its count through the entries still to meet: held, or enters uncut, or meets the next.

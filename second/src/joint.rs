@@ -1,6 +1,6 @@
 //! The joint run of all choices, entry by entry.
 
-use crate::cover::{cut, first_cover, weight, Cover, Cut};
+use crate::cover::{cut_coupled, first_cover, weight, Cover, Cut};
 use crate::plan::{still_blocks, Place, Plan};
 use crate::refusal;
 use std::collections::BTreeMap;
@@ -124,7 +124,7 @@ impl JointRun {
         }
     }
 
-    /// The pieces of an asking entry, which meets the other trains' entries on the element in list order.
+    /// The pieces of an asking entry, which first meets the other trains' entries on the partner, if the element has one, and then those on the element.
     fn cut_asker(&self, plan: &Plan, asker: &Entry, element: Place) -> Cut {
         let capacity = match plan.capacity(element) {
             Some(capacity) => capacity,
@@ -135,13 +135,21 @@ impl JointRun {
                 }
             }
         };
-        let to_meet: Vec<Cover> = self
-            .list
+        let on_partner = match plan.partner(element) {
+            None => Vec::new(),
+            Some(partner) => self.others_on(asker, partner),
+        };
+        let to_meet = self.others_on(asker, element);
+        cut_coupled(&asker.cover, &on_partner, capacity, &to_meet)
+    }
+
+    /// The covers of the other trains' entries that stand on or block a place, in list order.
+    fn others_on(&self, asker: &Entry, place: Place) -> Vec<Cover> {
+        self.list
             .iter()
-            .filter(|entry| entry.train != asker.train && entry.place == element)
+            .filter(|entry| entry.train != asker.train && entry.place == place)
             .map(|entry| entry.cover.clone())
-            .collect();
-        cut(&asker.cover, capacity, &to_meet)
+            .collect()
     }
 
     /// The row of an asking entry; no two entries are alike, since one train's standing entries share no choice.

@@ -1,6 +1,6 @@
 //! What both runs need of an accepted pair of files: places, the way of each train, capacities and planned lengths.
 
-use crate::reader::{read, Accepted, Case, Head, Table, Train};
+use crate::reader::{read, Accepted, Case, Couple, Head, Table, Train};
 use crate::refusal::Refusal;
 
 /// Where a train is: outside, on an element (station or track), or gone by the way out.
@@ -29,7 +29,7 @@ pub struct Plan {
 }
 
 impl Plan {
-    /// Reads both files, or gives the first refusal of the reading (1 to 11).
+    /// Reads both files, or gives the first refusal of the reading (1 to 11 and 18).
     pub fn read(case: &[u8], book: &[u8]) -> Result<Plan, Refusal> {
         let Accepted { head, case, tables } = read(case, book)?;
         let ways = case.trains.iter().map(|train| way(&case, train)).collect();
@@ -60,6 +60,16 @@ impl Plan {
             Place::Track(track) => Some(self.case.tracks[track].capacity),
             Place::Outside | Place::Gone => None,
         }
+    }
+
+    /// The track that is coupled with a track; nothing else has a partner.
+    pub fn partner(&self, place: Place) -> Option<Place> {
+        let of_couple = |couple: &Couple| match (Place::Track(couple[0]), Place::Track(couple[1])) {
+            (one, other) if one == place => Some(other),
+            (other, one) if one == place => Some(other),
+            _ => None,
+        };
+        self.case.couples.iter().find_map(of_couple)
     }
 
     /// The next element of a train on its way; a train gone has none.

@@ -8,6 +8,7 @@ pub const STATION_TAG: u8 = 2;
 pub const TRACK_TAG: u8 = 3;
 pub const TRAIN_TAG: u8 = 4;
 pub const TABLE_TAG: u8 = 5;
+pub const COUPLE_TAG: u8 = 6;
 
 /// The head of a case: last minute T, safety time and room.
 #[derive(Clone, Debug, PartialEq, Eq)]
@@ -56,6 +57,9 @@ pub struct Table {
     pub delays: Vec<Delay>,
 }
 
+/// The numbers of two coupled tracks, as they stand in the field.
+pub type Couple = [usize; 2];
+
 /// The fields of a case read so far; `stations` holds the capacities by station number.
 #[derive(Clone, Debug, Default, PartialEq, Eq)]
 pub struct Case {
@@ -64,6 +68,7 @@ pub struct Case {
     pub tracks: Vec<Track>,
     pub trains: Vec<Train>,
     pub tables: Vec<Table>,
+    pub couples: Vec<Couple>,
 }
 
 /// An accepted pair of files: the case, its head, and each train's own table by train number.
@@ -147,7 +152,7 @@ fn read_field(
     }
     let tag = field[0];
     let length = number(&field[1..3]) as usize;
-    if tag == 0 || tag > TABLE_TAG {
+    if tag == 0 || tag > COUPLE_TAG {
         return Err(TAG);
     }
     if !in_order(tag) {
@@ -169,6 +174,7 @@ pub fn possible_length(tag: u8, length: usize) -> bool {
         STATION_TAG => length == 1,
         TRACK_TAG => length == 3,
         TRAIN_TAG => (2..=8).any(|stops| length == 2 + 5 * stops),
-        _ => (1..=8).any(|pairs| length == 1 + 2 * pairs),
+        TABLE_TAG => (1..=8).any(|pairs| length == 1 + 2 * pairs),
+        _ => length == 2,
     }
 }

@@ -1,14 +1,14 @@
-//! The refusal numbers of 01 without 13, named once, and what an answer of refusal holds.
+//! The refusal numbers of 01 without 13 and those that 02 adds, named once, and what an answer of refusal holds.
 
 /// A field's header or body runs past the end.
 pub const PAST_END: u8 = 1;
-/// Tag 0 or above 5.
+/// Tag 0 or above 6.
 pub const TAG: u8 = 2;
 /// In a case the first field is no head, or a second head or a falling tag; in a book a tag other than 5.
 pub const ORDER: u8 = 3;
 /// Length not possible for the tag.
 pub const LENGTH: u8 = 4;
-/// One station, track, train or table too many, or at the end of a case no head, station or train.
+/// One station, track, train, table or couple too many, or at the end of a case no head, station or train.
 pub const COUNT: u8 = 5;
 /// Last minute, safety time, room or capacity out of range.
 pub const RANGE: u8 = 6;
@@ -33,6 +33,8 @@ pub const CHOICE: u8 = 15;
 pub const NO_TRAIN: u8 = 16;
 /// Stop minute above the last minute.
 pub const STOP: u8 = 17;
+/// Couple with an unknown track, ends that don't mirror, unequal capacities, or a track already coupled.
+pub const COUPLE: u8 = 18;
 
 /// File number of the case.
 pub const IN_CASE: u8 = 0;

@@ -60,7 +60,7 @@ fn visit(plan: &Plan, state: &mut State, t: u32, arrivals: &mut [Option<u32>]) {
     state.blocks.retain(|block| still_blocks(block.end, t));
     for element in plan.elements() {
         for train in askers(plan, state, element, t) {
-            if has_room(plan, state, element) {
+            if partner_is_free(plan, state, train, element) && has_room(plan, state, element) {
                 enter(plan, state, train, element, t);
                 if element == plan.last_station(train) {
                     arrivals[train] = Some(t);
@@ -83,15 +83,27 @@ fn askers(plan: &Plan, state: &State, element: Place, t: u32) -> Vec<usize> {
 
 /// Whether fewer trains stand on or block the element than its capacity.
 fn has_room(plan: &Plan, state: &State, element: Place) -> bool {
-    let there = |train: &usize| {
-        let stands = state.standing[*train].place == element;
-        let blocks = |block: &Block| block.train == *train && block.place == element;
-        stands || state.blocks.iter().any(blocks)
-    };
+    let there = |train: &usize| is_on(state, *train, element);
     match plan.capacity(element) {
         None => true,
         Some(capacity) => (0..plan.trains()).filter(there).count() < capacity,
     }
+}
+
+/// Whether no other train stands on or blocks the partner of the element, if it has one.
+fn partner_is_free(plan: &Plan, state: &State, train: usize, element: Place) -> bool {
+    let mut others = (0..plan.trains()).filter(|other| *other != train);
+    match plan.partner(element) {
+        None => true,
+        Some(partner) => !others.any(|other| is_on(state, other, partner)),
+    }
+}
+
+/// Whether a train stands on or blocks an element.
+fn is_on(state: &State, train: usize, element: Place) -> bool {
+    let stands = state.standing[train].place == element;
+    let blocks = |block: &Block| block.train == train && block.place == element;
+    stands || state.blocks.iter().any(blocks)
 }
 
 /// The train leaves its element blocked, stands on the next and is due after its planned length there.

@@ -1,6 +1,6 @@
 //! The cutting rule on covers worked out by hand; delay d of a train is bit d of its set.
 
-use second::cover::{common, cut, outside_pieces, Cut};
+use second::cover::{common, cut, cut_coupled, outside_pieces, Cut};
 
 /// A cut with these held and entering pieces.
 fn pieces(held: &[&[u8]], entering: &[&[u8]]) -> Cut {
@@ -78,5 +78,93 @@ fn a_held_piece_is_not_cut_further() {
     assert_eq!(
         cut(&vec![0b11, 0b01, 0b11], 1, &met),
         pieces(&[&[0b11, 0b01, 0b11]], &[])
+    );
+}
+
+#[test]
+fn a_piece_inside_an_entry_of_the_partner_is_held_whatever_the_capacity() {
+    let asking = vec![0b11, 0b01];
+    let on_partner = [vec![0b01, 0b11]];
+    let expected = pieces(&[&[0b01, 0b01]], &[&[0b10, 0b01]]);
+    for capacity in [1, 2, 255] {
+        assert_eq!(cut_coupled(&asking, &on_partner, capacity, &[]), expected);
+    }
+    let on_partner = [vec![0b11, 0b11]];
+    let whole = pieces(&[&[0b11, 0b01]], &[]);
+    assert_eq!(cut_coupled(&asking, &on_partner, 255, &[]), whole);
+}
+
+#[test]
+fn the_partners_entries_are_passed_in_list_order_and_a_held_piece_meets_no_more() {
+    // The first entry holds train 0's first delay, the second what is left of train 2's second one.
+    let asking = vec![0b11, 0b01, 0b11];
+    let on_partner = [vec![0b01, 0b01, 0b11], vec![0b11, 0b01, 0b10]];
+    let expected = pieces(
+        &[&[0b01, 0b01, 0b11], &[0b10, 0b01, 0b10]],
+        &[&[0b10, 0b01, 0b01]],
+    );
+    assert_eq!(cut_coupled(&asking, &on_partner, 9, &[]), expected);
+    let turned = [on_partner[1].clone(), on_partner[0].clone()];
+    let expected = pieces(
+        &[&[0b11, 0b01, 0b10], &[0b01, 0b01, 0b01]],
+        &[&[0b10, 0b01, 0b01]],
+    );
+    assert_eq!(cut_coupled(&asking, &turned, 9, &[]), expected);
+}
+
+#[test]
+fn behind_the_partner_a_piece_has_count_0_and_meets_the_tracks_own_entries() {
+    let asking = vec![0b11, 0b01, 0b11];
+    let on_partner = [vec![0b01, 0b11, 0b01]];
+    let own = [vec![0b10, 0b01, 0b11], vec![0b01, 0b01, 0b10]];
+    // Outside the partner's entry are {2, 1, 3} and {1, 1, 2}. Each is held by one of the track's own entries where it takes one train.
+    let one = pieces(
+        &[
+            &[0b01, 0b01, 0b01],
+            &[0b10, 0b01, 0b11],
+            &[0b01, 0b01, 0b10],
+        ],
+        &[],
+    );
+    assert_eq!(cut_coupled(&asking, &on_partner, 1, &own), one);
+    // Where it takes two, none has met two. Still to meet are the track's own entries alone: a piece that has met one of them goes on to the other.
+    let two = pieces(
+        &[&[0b01, 0b01, 0b01]],
+        &[&[0b10, 0b01, 0b11], &[0b01, 0b01, 0b10]],
+    );
+    assert_eq!(cut_coupled(&asking, &on_partner, 2, &own), two);
+    assert_eq!(cut_coupled(&asking, &on_partner, 3, &own), two);
+}
+
+#[test]
+fn held_pieces_of_the_partner_and_of_the_track_stand_in_cutting_order() {
+    // Outside the partner's first entry, train 0's second delay goes on first, and a piece of it is held on the track; then train 2's second delay is held at
+    // the partner's second entry.
+    let asking = vec![0b11, 0b01, 0b11];
+    let on_partner = [vec![0b01, 0b01, 0b01], vec![0b01, 0b01, 0b10]];
+    let own = [vec![0b10, 0b01, 0b10]];
+    let expected = pieces(
+        &[
+            &[0b01, 0b01, 0b01],
+            &[0b10, 0b01, 0b10],
+            &[0b01, 0b01, 0b10],
+        ],
+        &[&[0b10, 0b01, 0b01]],
+    );
+    assert_eq!(cut_coupled(&asking, &on_partner, 1, &own), expected);
+}
+
+#[test]
+fn an_entry_of_the_partner_without_a_common_choice_changes_nothing() {
+    let asking = vec![0b11, 0b01];
+    let on_partner = [vec![0b01, 0b10], vec![0b10, 0b10]];
+    let own = [vec![0b01, 0b01]];
+    assert_eq!(
+        cut_coupled(&asking, &on_partner, 1, &own),
+        cut(&asking, 1, &own)
+    );
+    assert_eq!(
+        cut_coupled(&asking, &on_partner, 2, &own),
+        pieces(&[], &[&[0b11, 0b01]])
     );
 }

@@ -68,7 +68,7 @@ fn the_undamaged_files_are_accepted() {
 
 #[test]
 fn refusal_1_headers_and_bodies_past_the_end() {
-    for tag in [0, 1, 2, 5, 6, 255] {
+    for tag in [0, 1, 2, 5, 6, 7, 255] {
         refused_after(&[], &[tag], 1);
         refused_after(&[], &[tag, 0], 1);
         refused_after(&whole(), &[tag], 1);
@@ -100,7 +100,7 @@ fn refusal_1_5_and_11_at_every_cut_of_a_sound_case() {
 
 #[test]
 fn refusal_2_unknown_tags() {
-    for tag in [0, 6, 7, 128, 255] {
+    for tag in [0, 7, 8, 128, 255] {
         for length in [[0, 0], [0, 1], [0, 5], [255, 255]] {
             let header = [tag, length[0], length[1]];
             refused_after(&[], &header, 2);

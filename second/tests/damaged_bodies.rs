@@ -237,7 +237,7 @@ fn the_first_unsound_field_wins_then_the_book_then_11() {
 }
 
 #[test]
-fn the_longest_case_has_819_bytes_and_nothing_may_follow() {
+fn the_longest_case_without_couples_has_819_bytes_and_only_a_couple_may_follow() {
     let path: Vec<(u8, u16, u16)> = (0..8)
         .map(|s| (s, 2 * u16::from(s), 2 * u16::from(s)))
         .collect();
@@ -254,10 +254,13 @@ fn the_longest_case_has_819_bytes_and_nothing_may_follow() {
         let expected = match tag {
             1..=4 => 3,
             5 => 5,
+            6 => 4,
             _ => 2,
         };
         refused_after(&case, &field(tag, &[9, 0, 100]), expected);
         let far = [field(tag, &[9, 0, 100]), vec![7; 4_000]].concat();
         refused_after(&case, &far, expected);
     }
+    // None of its tracks mirrors another.
+    refused_after(&case, &field(6, &[0, 1]), 18);
 }

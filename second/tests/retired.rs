@@ -102,7 +102,7 @@ fn an_entry_weighs_what_the_choices_weigh_that_it_covers() {
 }
 
 #[test]
-fn the_table_of_refusals_has_the_numbers_of_01_but_13_each_once() {
+fn the_table_of_refusals_has_the_numbers_of_01_but_13_and_18_of_02_each_once() {
     let constants = include_str!("../src/refusal.rs").lines();
     let numbers = constants
         .filter_map(|line| line.strip_prefix("pub const "))
@@ -111,6 +111,6 @@ fn the_table_of_refusals_has_the_numbers_of_01_but_13_each_once() {
     let mut numbers: Vec<u8> = numbers.map(|n| n.parse().expect("a number")).collect();
     numbers.sort();
     assert!(!numbers.contains(&13));
-    let expected: Vec<u8> = (1..=12).chain(14..=17).collect();
+    let expected: Vec<u8> = (1..=12).chain(14..=18).collect();
     assert_eq!(numbers, expected);
 }

@@ -1,13 +1,19 @@
 //! Damaging files: byte changes, cuts, changed lengths, and fields dropped, repeated, swapped or heaped up.
 
+use crate::couple_damage::{damage_couples, has_couples};
 use crate::generator::{Chance, Files};
 use second::reader::TABLE_TAG;
 use second::viewer::{View, Viewer};
 
-/// Damages the case or, less often, the book, once or twice.
+/// Damages the case or, less often, the book, once or twice; of a case with couples mostly these.
 pub fn damaged(chance: &mut Chance, files: &Files) -> Files {
+    let coupled = has_couples(&files.case);
     let mut files = files.clone();
     for _ in 0..chance.between(1, 2) {
+        if coupled && chance.percent(60) {
+            damage_couples(chance, &mut files);
+            continue;
+        }
         let in_book = !files.book.is_empty() && chance.percent(30);
         let file = if in_book {
             &mut files.book

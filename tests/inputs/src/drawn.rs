@@ -1,10 +1,15 @@
-//! Inputs drawn seed by seed: small and large ones, sound and damaged.
+//! Inputs drawn seed by seed: small and large ones, without and with coupled tracks, sound and damaged.
 
 use crate::damage::damaged;
 use crate::generator::{crowded, sound, Chance, Files, Size};
+use crate::meeting::{crossing, long_branch, meeting};
 
+/// How many inputs without couples are drawn from one seed.
+const WITHOUT_COUPLES: usize = 50;
+/// How many inputs with couples are drawn from one seed, after those.
+const WITH_COUPLES: usize = 16;
 /// How many inputs are drawn from one seed.
-pub const OF_A_SEED: usize = 50;
+pub const OF_A_SEED: usize = WITHOUT_COUPLES + WITH_COUPLES;
 /// The seeds of the fixed comparison: 1 up to this one.
 pub const FIXED_SEEDS: u64 = 120;
 /// Of these, the seeds whose inputs are counted by what they reach: 1 up to this one.
@@ -44,9 +49,12 @@ const LONG: Size = Size {
     stretch: 14,
 };
 
-/// The inputs of one seed.
+/// The inputs of one seed; those with couples are drawn apart, so that the others are as they were before tracks could be coupled.
 pub fn drawn(chance: &mut Chance) -> Vec<Files> {
-    (0..OF_A_SEED).map(|_| draw(chance)).collect()
+    let mut apart = chance.apart();
+    let mut inputs: Vec<Files> = (0..WITHOUT_COUPLES).map(|_| draw(chance)).collect();
+    inputs.extend((0..WITH_COUPLES).map(|_| draw_meeting(&mut apart)));
+    inputs
 }
 
 /// Draws an input: of each ten six small, one with many trains, one with many delays, one long, one crowded; one third is damaged.
@@ -61,6 +69,28 @@ fn draw(chance: &mut Chance) -> Files {
         }
         _ => sound(chance, SMALL),
     };
+    third_damaged(chance, files)
+}
+
+/// Draws an input with couples: of each ten five small, one with many trains, one with many delays, one long, one crossing, one long branch;
+/// one third is damaged.
+fn draw_meeting(chance: &mut Chance) -> Files {
+    let files = match chance.below(10) {
+        0 => meeting(chance, MANY),
+        1 => meeting(chance, LATE),
+        2 => meeting(chance, LONG),
+        3 => {
+            let capacity = chance.between(1, MOST_MET - 1);
+            crossing(chance, capacity)
+        }
+        4 => long_branch(chance),
+        _ => meeting(chance, SMALL),
+    };
+    third_damaged(chance, files)
+}
+
+/// Damages an input in one of three draws.
+fn third_damaged(chance: &mut Chance, files: Files) -> Files {
     match chance.below(3) {
         0 => damaged(chance, &files),
         _ => files,

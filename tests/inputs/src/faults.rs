@@ -16,7 +16,7 @@ macro_rules! faults {
         }
 
         /// All faults, in the order in which they are judged.
-        pub const ALL: [Fault; 44] = [$($fault,)*];
+        pub const ALL: [Fault; 51] = [$($fault,)*];
     };
 }
 
@@ -65,6 +65,13 @@ faults! {
     WeightZero,
     SumLow,
     SumHigh,
+    FirstTrackUnknown,
+    SecondTrackUnknown,
+    TrackWithItself,
+    EndsNotMirrored,
+    CapacitiesUnequal,
+    FirstTrackCoupled,
+    SecondTrackCoupled,
 }
 
 impl Fault {
@@ -80,7 +87,8 @@ impl Fault {
             fault if fault <= EarlierEnds => refusal::ENDS,
             fault if fault <= NoTrackToLast => refusal::PATH,
             fault if fault <= PastLastMinute => refusal::TIMES,
-            _ => refusal::TABLE,
+            fault if fault <= SumHigh => refusal::TABLE,
+            _ => refusal::COUPLE,
         }
     }
 }
@@ -107,7 +115,7 @@ pub fn in_case(bytes: &[u8], place: usize) -> Vec<Fault> {
     };
     let mut faults = which(&[
         (tag == 0, TagZero),
-        (tag > TABLE_TAG, TagAbove),
+        (tag > COUPLE_TAG, TagAbove),
         (before.is_none() && tag != HEAD_TAG, NoHeadFirst),
         (before.is_some() && tag == HEAD_TAG, SecondHead),
         (before.map_or(false, |before| tag < before), FallingTag),
@@ -126,7 +134,7 @@ pub fn in_book(bytes: &[u8], place: usize) -> Vec<Fault> {
     let full = tag == TABLE_TAG && tables.len() == MOST_TABLES;
     let mut faults = which(&[
         (tag == 0, TagZero),
-        (tag > TABLE_TAG, TagAbove),
+        (tag > COUPLE_TAG, TagAbove),
         (tag != TABLE_TAG, NoTableInBook),
         (full, TooMany),
     ]);
@@ -148,6 +156,7 @@ fn one_too_many(case: &Case, tag: u8) -> bool {
         TRACK_TAG => case.tracks.len() == MOST_TRACKS,
         TRAIN_TAG => case.trains.len() == MOST_TRAINS,
         TABLE_TAG => case.tables.len() == MOST_TABLES,
+        COUPLE_TAG => case.couples.len() == MOST_COUPLES,
         _ => false,
     }
 }
@@ -158,7 +167,7 @@ fn field_faults(case: &Case, field: &[u8]) -> Vec<Fault> {
         return vec![HeaderCut];
     }
     let (tag, length) = (field[0], number(&field[1..3]) as usize);
-    let known = (HEAD_TAG..=TABLE_TAG).contains(&tag);
+    let known = (HEAD_TAG..=COUPLE_TAG).contains(&tag);
     let mut faults = which(&[
         (known && !possible_length(tag, length), Length),
         (field.len() < 3 + length, BodyCut),
@@ -179,7 +188,8 @@ fn body_faults(case: &Case, tag: u8, body: &[u8]) -> Vec<Fault> {
             let stops: Vec<Stop> = body[2..].chunks(5).map(read_stop).collect();
             [path_faults(case, &stops), times_faults(case, &stops)].concat()
         }
-        _ => table_faults(&case.tables, body),
+        TABLE_TAG => table_faults(&case.tables, body),
+        _ => couple_faults(case, usize::from(body[0]), usize::from(body[1])),
     }
 }
 
@@ -254,5 +264,23 @@ fn table_faults(tables: &[Table], body: &[u8]) -> Vec<Fault> {
         (delays.iter().any(|delay| delay.weight == 0), WeightZero),
         (sum < 100, SumLow),
         (sum > 100, SumHigh),
+    ])
+}
+
+fn couple_faults(case: &Case, one: usize, other: usize) -> Vec<Fault> {
+    let both = match (case.tracks.get(one), case.tracks.get(other)) {
+        (Some(one), Some(other)) => Some((one, other)),
+        _ => None,
+    };
+    let unmirrored = both.map_or(false, |(one, other)| !mirrors(one, other));
+    let unequal = both.map_or(false, |(one, other)| one.capacity != other.capacity);
+    which(&[
+        (one >= case.tracks.len(), FirstTrackUnknown),
+        (other >= case.tracks.len(), SecondTrackUnknown),
+        (one == other, TrackWithItself),
+        (unmirrored, EndsNotMirrored),
+        (unequal, CapacitiesUnequal),
+        (is_coupled(case, one), FirstTrackCoupled),
+        (is_coupled(case, other), SecondTrackCoupled),
     ])
 }

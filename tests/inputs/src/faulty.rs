@@ -2,16 +2,16 @@
 
 use crate::faults::{in_book, in_case, Fault, Fault::*, ALL};
 use crate::generator::Files;
-use crate::writer::{field, head, station, table, track, train};
+use crate::writer::{couple, field, head, station, table, track, train};
 use second::reader::*;
 
-/// A station number that no case has.
+/// The number of a station or track that no case has.
 const UNKNOWN: u8 = 200;
 
 /// Files in whose case or book one field has one fault or two, for each two that can be made to meet there.
 pub fn faulty() -> Vec<Files> {
     let mut made = Vec::new();
-    for tag in [0, HEAD_TAG, STATION_TAG, TRACK_TAG, TRAIN_TAG, TABLE_TAG, 6] {
+    for tag in 0..=COUPLE_TAG + 1 {
         for (at, one) in ALL.iter().enumerate() {
             for other in &ALL[at..] {
                 made.extend(case_with(tag, &[*one, *other]));
@@ -62,6 +62,30 @@ fn line() -> Vec<u8> {
     (0..7).flat_map(|from| track(from, from + 1, 1)).collect()
 }
 
+/// Tracks back along the line: track 7 mirrors track 0, and so on to 13 and 6.
+fn line_back() -> Vec<u8> {
+    (0..7).flat_map(|to| track(to + 1, to, 1)).collect()
+}
+
+/// A sound case whose tracks 0 and 7 are coupled; or, as full as it may be, all of its forty tracks. Track 15 mirrors track 14 and takes two trains,
+/// and so does track 14 if they are coupled.
+fn coupled_case(full: bool) -> Vec<u8> {
+    let last = [track(8, 9, 1 + u8::from(full)), track(9, 8, 2)].concat();
+    let ride = [train(0, 5, &sound_stops()), table(5, &[(0, 100)])].concat();
+    let ends = (0..8u8).flat_map(|one| (one + 2..10).map(move |other| (one, other)));
+    let there_and_back = |(a, b)| [track(a, b, 1), track(b, a, 1)].concat();
+    let others: Vec<u8> = ends.take(12).flat_map(there_and_back).collect();
+    let (more, couples) = match full {
+        false => (Vec::new(), couple(0, 7)),
+        true => {
+            let along = (0..7).flat_map(|there| couple(there, there + 7));
+            let rest = (7..20).flat_map(|pair| couple(2 * pair, 2 * pair + 1));
+            (others, along.chain(rest).collect())
+        }
+    };
+    [ground(), line(), line_back(), last, more, ride, couples].concat()
+}
+
 /// A path of eight stops along the line.
 fn sound_stops() -> Vec<(u8, u16, u16)> {
     (0..8u8)
@@ -87,10 +111,12 @@ fn fields_before(tag: u8, faults: &[Fault]) -> Vec<u8> {
             let rides = ride.repeat(if full { 7 } else { 1 });
             ([ground(), line(), rides].concat(), table(5, &[(0, 100)]))
         }
-        TABLE_TAG => (
-            [ground(), line(), ride, tables_before(faults)].concat(),
-            Vec::new(),
-        ),
+        TABLE_TAG => {
+            let tracks = [line(), line_back().repeat(falls.into())].concat();
+            let tables = tables_before(faults);
+            ([ground(), tracks, ride, tables].concat(), couple(0, 7))
+        }
+        COUPLE_TAG => (coupled_case(full), Vec::new()),
         _ => (sound_case(), Vec::new()),
     };
     match falls {
@@ -151,6 +177,7 @@ fn faulty_body(tag: u8, faults: &[Fault]) -> Vec<u8> {
         TRACK_TAG => faulty_track(faults),
         TRAIN_TAG => train(0, 5, &faulty_stops(faults)),
         TABLE_TAG => faulty_table(faults),
+        COUPLE_TAG => faulty_couple(faults),
         _ => vec![0; 6],
     };
     bytes[3..].to_vec()
@@ -214,4 +241,33 @@ fn faulty_table(faults: &[Fault]) -> Vec<u8> {
         }
     }
     table(train_type, &pairs)
+}
+
+/// Two tracks of the coupled case with these faults; without any, tracks 1 and 8.
+fn faulty_couple(faults: &[Fault]) -> Vec<u8> {
+    let has = |fault: Fault| faults.contains(&fault);
+    let unmirrored = has(EndsNotMirrored) || has(TooMany);
+    let (mut one, mut other) = match (has(CapacitiesUnequal), unmirrored) {
+        (false, false) => (1, 8),
+        (false, true) => (1, 9),
+        (true, false) => (14, 15),
+        (true, true) => (1, 15),
+    };
+    if has(FirstTrackCoupled) {
+        one = 0;
+    }
+    if has(SecondTrackCoupled) {
+        (one, other) = (if has(CapacitiesUnequal) { 15 } else { one }, 7);
+    }
+    if has(FirstTrackUnknown) {
+        one = UNKNOWN;
+    }
+    if has(SecondTrackUnknown) {
+        other = UNKNOWN + 1;
+    }
+    match has(TrackWithItself) {
+        true if has(SecondTrackUnknown) || has(SecondTrackCoupled) => couple(other, other),
+        true => couple(one, one),
+        false => couple(one, other),
+    }
 }

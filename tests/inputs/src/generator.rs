@@ -1,6 +1,6 @@
-//! A small deterministic generator of sound cases with contention: trains that share a line of stations and tracks.
+//! A small deterministic generator of sound cases with contention: trains that share a line of stations and tracks, one way or both.
 
-use crate::writer::{head, station, table, track, train};
+use crate::writer::{couple, head, station, table, track, train};
 
 /// A simple linear generator of numbers.
 pub struct Chance {
@@ -16,6 +16,11 @@ impl Chance {
         chance.below(2);
         chance.below(2);
         chance
+    }
+
+    /// Another generator, which this one's state decides; this one's numbers stay the same.
+    pub fn apart(&self) -> Chance {
+        Chance::new(self.state)
     }
 
     /// A number from 0 to one below the limit.
@@ -65,18 +70,26 @@ pub struct Files {
 /// A planned stop: station, arrival, departure.
 type PlannedStop = (u8, u16, u16);
 
-/// A line of stations in the order in which trains pass them, and the tracks by their ends.
-struct Line {
-    stations: Vec<u8>,
-    tracks: Vec<(u8, u8)>,
+/// A line of stations in the order in which trains pass them, the tracks by their ends, the coupled tracks, and how many
+/// trains in a hundred go back where there is a track.
+pub(crate) struct Line {
+    pub stations: Vec<u8>,
+    pub tracks: Vec<(u8, u8)>,
+    pub couples: Vec<(u8, u8)>,
+    pub back: usize,
 }
 
-/// Draws a sound case and its book.
+/// Draws a sound case and its book; no tracks are coupled.
 pub fn sound(chance: &mut Chance, size: Size) -> Files {
     let line = draw_line(chance);
+    draw_case(chance, size, &line)
+}
+
+/// Draws a sound case on a line, and its book.
+pub(crate) fn draw_case(chance: &mut Chance, size: Size, line: &Line) -> Files {
     let count = chance.between(size.trains.0, size.trains.1);
     let plans: Vec<Vec<PlannedStop>> = (0..count)
-        .map(|_| draw_stops(chance, &line, size.stretch))
+        .map(|_| draw_stops(chance, line, size.stretch))
         .collect();
     let departures = plans.iter().flatten().map(|stop| stop.2);
     let spare = chance.between(1, 14) * size.stretch;
@@ -86,8 +99,8 @@ pub fn sound(chance: &mut Chance, size: Size) -> Files {
     for _ in &line.stations {
         case.extend(station(draw_capacity(chance)));
     }
-    for (from, to) in &line.tracks {
-        case.extend(track(*from, *to, draw_capacity(chance)));
+    for ((from, to), capacity) in line.tracks.iter().zip(draw_capacities(chance, line)) {
+        case.extend(track(*from, *to, capacity));
     }
     let types = chance.between(1, 3);
     for stops in &plans {
@@ -97,6 +110,8 @@ pub fn sound(chance: &mut Chance, size: Size) -> Files {
     }
     let (in_case, book) = draw_tables(chance, size, types);
     case.extend(in_case);
+    let couples = line.couples.iter();
+    case.extend(couples.flat_map(|(one, other)| couple(*one, *other)));
     Files { case, book }
 }
 
@@ -146,12 +161,27 @@ fn draw_line(chance: &mut Chance) -> Line {
         }
     }
     chance.shuffle(&mut tracks);
-    Line { stations, tracks }
+    Line {
+        stations,
+        tracks,
+        couples: Vec::new(),
+        back: 25,
+    }
 }
 
 /// Mostly 1, often 2, seldom more.
 fn draw_capacity(chance: &mut Chance) -> u8 {
     [1, 1, 1, 1, 1, 2, 2, 2, 3, 255][chance.below(10)]
+}
+
+/// The capacities of the tracks; of two that are coupled the second has the first's.
+fn draw_capacities(chance: &mut Chance, line: &Line) -> Vec<u8> {
+    let tracks = line.tracks.iter();
+    let mut capacities: Vec<u8> = tracks.map(|_| draw_capacity(chance)).collect();
+    for (one, other) in &line.couples {
+        capacities[usize::from(*other)] = capacities[usize::from(*one)];
+    }
+    capacities
 }
 
 /// The full room, or a small one that the list may pass.
@@ -178,10 +208,10 @@ fn draw_stops(chance: &mut Chance, line: &Line, stretch: usize) -> Vec<PlannedSt
     stops
 }
 
-/// The stations of a path: each step has a track, and none is repeated.
+/// The stations of a path, at most eight: each step has a track, and none is repeated.
 fn draw_path(chance: &mut Chance, line: &Line) -> Vec<u8> {
     let mut order = line.stations.clone();
-    if line.tracks.contains(&(order[1], order[0])) && chance.percent(25) {
+    if line.tracks.contains(&(order[1], order[0])) && chance.percent(line.back) {
         order.reverse();
     }
     let mut at = match chance.percent(60) {
@@ -189,7 +219,7 @@ fn draw_path(chance: &mut Chance, line: &Line) -> Vec<u8> {
         false => chance.below(order.len() - 1),
     };
     let mut path = vec![order[at]];
-    while at + 1 < order.len() && (path.len() < 2 || chance.percent(80)) {
+    while at + 1 < order.len() && path.len() < 8 && (path.len() < 2 || chance.percent(80)) {
         let short_cut = at + 2 < order.len() && line.tracks.contains(&(order[at], order[at + 2]));
         at += if short_cut && chance.percent(40) {
             2
@@ -220,7 +250,7 @@ fn draw_tables(chance: &mut Chance, size: Size, types: usize) -> (Vec<u8>, Vec<u
 }
 
 /// A table with rising delays and weights that sum to 100.
-fn draw_table(chance: &mut Chance, size: Size, train_type: u8) -> Vec<u8> {
+pub(crate) fn draw_table(chance: &mut Chance, size: Size, train_type: u8) -> Vec<u8> {
     let count = chance.between(size.delays.0, size.delays.1);
     let mut delay = [0, 0, 0, 1, 3][chance.below(5)];
     let mut cuts: Vec<usize> = (1..100).collect();

@@ -1,11 +1,14 @@
 //! Inputs made for a purpose.
 
+use crate::branches::{each_waits, longest, most_couples, passing_station, two_abreast};
 use crate::drawn::MOST_MET;
 use crate::faulty::{faulty, sound_case};
 use crate::generator::{crowded, Chance, Files};
+use crate::meeting::crossing;
 use crate::writer::{head, station, table, track, train};
 
-/// The inputs made for a purpose: each fault and each two in one field, each end of a range, refusals 11 and 12, each capacity, the examples.
+/// The inputs made for a purpose: each fault and each two in one field, each end of a range, refusals 11 and 12, each capacity, the examples,
+/// and trains that meet.
 pub fn made() -> Vec<Files> {
     let mut made = faulty();
     made.extend(ends_of_cases());
@@ -17,6 +20,28 @@ pub fn made() -> Vec<Files> {
     }
     made.extend(examples());
     made.extend(document_000());
+    made.extend(meetings());
+    made
+}
+
+/// Branches on which trains meet, the longest case, and trains that cross on a coupled track of each capacity.
+fn meetings() -> Vec<Files> {
+    let cases = [
+        passing_station(),
+        each_waits(),
+        two_abreast(),
+        most_couples(),
+        longest(),
+    ];
+    let files = |case| Files {
+        case,
+        book: Vec::new(),
+    };
+    let mut made = cases.map(files).to_vec();
+    let mut chance = Chance::new(0);
+    for capacity in 1..MOST_MET {
+        made.extend((0..2).map(|_| crossing(&mut chance, capacity)));
+    }
     made
 }
 

@@ -1,6 +1,7 @@
 //! What a joint run has been through, seen from its lists minute by minute: how often held entries were split, at which counts pieces were held,
 //! and how much an entry weighed.
 
+use crate::waits::holder;
 use second::cover::weight;
 use second::joint::{Entry, JointRun, Kind};
 use second::plan::{Place, Plan};
@@ -16,7 +17,7 @@ pub const MOST_WEIGHT: u64 = 100_000_000_000_000;
 pub struct Trace {
     /// What splits have left of held entries, by generation; place 0 is not used.
     pub splits: Vec<usize>,
-    /// Entries held after a minute, by the count at which a piece is held: the capacity of what they wait for.
+    /// Entries held after a minute, but not at the partner, by the count at which a piece is held: the capacity of what they wait for.
     pub held: Vec<usize>,
     /// Refusal 12 in the first list.
     pub refused_at_first: bool,
@@ -88,18 +89,19 @@ pub fn split_further(
 }
 
 /// Whether a standing entry is what is left of an older one that waits at the same place since the same minute.
-fn is_rest_of(entry: &Entry, old: &Entry) -> bool {
+pub fn is_rest_of(entry: &Entry, old: &Entry) -> bool {
     let same_wait = (entry.train, entry.place, entry.minute) == (old.train, old.place, old.minute);
     let standing = entry.kind == Kind::Stands && old.kind == Kind::Stands;
     let within = entry.cover.iter().zip(&old.cover).all(|(a, b)| a & !b == 0);
     same_wait && standing && within && entry.place != Place::Gone
 }
 
-/// For each entry held after a minute the capacity of the element that it waits for.
+/// For each entry held after a minute the capacity of the element that it waits for, unless it is held at the partner, where nothing is counted.
 pub fn held_counts(plan: &Plan, list: &[Entry], t: u32) -> Vec<usize> {
     let due = list
         .iter()
-        .filter(|entry| entry.kind == Kind::Stands && entry.minute <= t);
+        .filter(|entry| entry.kind == Kind::Stands && entry.minute <= t)
+        .filter(|entry| holder(plan, list, entry).is_none());
     due.filter_map(|entry| plan.capacity(plan.next(entry.train, entry.place)?))
         .collect()
 }

@@ -1,6 +1,6 @@
 //! Writing the fields of a case or a book, and bytes as hexadecimal text.
 
-use second::reader::{HEAD_TAG, STATION_TAG, TABLE_TAG, TRACK_TAG, TRAIN_TAG};
+use second::reader::{COUPLE_TAG, HEAD_TAG, STATION_TAG, TABLE_TAG, TRACK_TAG, TRAIN_TAG};
 
 /// A field: one byte tag, two bytes length, body.
 pub fn field(tag: u8, body: &[u8]) -> Vec<u8> {
@@ -46,6 +46,11 @@ pub fn table(train_type: u8, pairs: &[(u8, u8)]) -> Vec<u8> {
         body.extend_from_slice(&[*delay, *weight]);
     }
     field(TABLE_TAG, &body)
+}
+
+/// A couple of two tracks.
+pub fn couple(one: u8, other: u8) -> Vec<u8> {
+    field(COUPLE_TAG, &[one, other])
 }
 
 /// Bytes as lowercase hexadecimal text without spaces.

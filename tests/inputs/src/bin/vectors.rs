@@ -1,8 +1,10 @@
-//! The program `vectors SEED COUNT`: prints the answers of the second program to COUNT small inputs drawn from SEED, one vector a line.
+//! The program `vectors SEED COUNT`: prints the answers of the second program to COUNT small inputs drawn from SEED, one vector a line. Of each three
+//! inputs one has couples.
 
 use inputs::damage::damaged;
 use inputs::drawn::SMALL;
-use inputs::generator::{sound, Chance, Files};
+use inputs::generator::{sound, Chance, Files, Size};
+use inputs::meeting::meeting;
 use inputs::vectors::vectors;
 use std::io::{self, Write};
 use std::process::ExitCode;
@@ -28,10 +30,15 @@ fn main() -> ExitCode {
 /// The vectors of the inputs drawn from a seed.
 fn drawn(seed: u64, count: u64) -> String {
     let mut chance = Chance::new(seed);
+    let mut apart = chance.apart();
     let mut lines = String::new();
-    for _ in 0..count {
-        let files = draw(&mut chance);
-        for line in vectors(&mut chance, &files) {
+    for number in 0..count {
+        let (chance, of_kind): (_, fn(&mut Chance, Size) -> Files) = match number % 3 {
+            2 => (&mut apart, meeting),
+            _ => (&mut chance, sound),
+        };
+        let files = draw(chance, of_kind);
+        for line in vectors(chance, &files) {
             lines.push_str(&line);
             lines.push('\n');
         }
@@ -40,8 +47,8 @@ fn drawn(seed: u64, count: u64) -> String {
 }
 
 /// Draws an input: two thirds sound small cases, one third damaged ones.
-fn draw(chance: &mut Chance) -> Files {
-    let files = sound(chance, SMALL);
+fn draw(chance: &mut Chance, of_kind: fn(&mut Chance, Size) -> Files) -> Files {
+    let files = of_kind(chance, SMALL);
     match chance.below(3) {
         0 => damaged(chance, &files),
         _ => files,

@@ -19,7 +19,7 @@ fn faults_at(case: &[u8], book: &[u8], refusal: &Refusal) -> (Seat, Vec<Fault>) 
     assert_eq!(faults[0].refusal(), refusal.number);
     let tag = match bytes.get(refusal.place) {
         None => END,
-        Some(tag) if (HEAD_TAG..=TABLE_TAG).contains(tag) => *tag,
+        Some(tag) if (HEAD_TAG..=COUPLE_TAG).contains(tag) => *tag,
         Some(_) => UNKNOWN,
     };
     ((refusal.file, tag), faults)

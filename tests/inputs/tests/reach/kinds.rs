@@ -9,10 +9,10 @@ pub type Seat = (u8, u8);
 
 /// The tag of a seat for tags that are not known, and for the end of a case.
 pub const UNKNOWN: u8 = 0;
-pub const END: u8 = 6;
+pub const END: u8 = 7;
 
 /// Every kind of fault in every field it can stand in.
-pub const KINDS: [(&str, Seat, &[Fault]); 13] = [
+pub const KINDS: [(&str, Seat, &[Fault]); 15] = [
     (
         "case, unknown tag",
         (IN_CASE, UNKNOWN),
@@ -103,6 +103,7 @@ pub const KINDS: [(&str, Seat, &[Fault]); 13] = [
         &[
             HeaderCut,
             NoHeadFirst,
+            FallingTag,
             Length,
             BodyCut,
             TooMany,
@@ -113,6 +114,24 @@ pub const KINDS: [(&str, Seat, &[Fault]); 13] = [
             WeightZero,
             SumLow,
             SumHigh,
+        ],
+    ),
+    (
+        "case, couple",
+        (IN_CASE, COUPLE_TAG),
+        &[
+            HeaderCut,
+            NoHeadFirst,
+            Length,
+            BodyCut,
+            TooMany,
+            FirstTrackUnknown,
+            SecondTrackUnknown,
+            TrackWithItself,
+            EndsNotMirrored,
+            CapacitiesUnequal,
+            FirstTrackCoupled,
+            SecondTrackCoupled,
         ],
     ),
     (
@@ -146,36 +165,53 @@ pub const KINDS: [(&str, Seat, &[Fault]); 13] = [
             SumHigh,
         ],
     ),
+    ("book, couple", (IN_BOOK, COUPLE_TAG), FOREIGN),
 ];
 
 /// What can be said of a field in a book that is no table.
 const FOREIGN: &[Fault] = &[HeaderCut, NoTableInBook, Length, BodyCut];
 
 /// Faults that never give the refusal of a field, because in it another one with a lower place in the order always comes along.
-pub const NEVER_FIRST: [(Seat, &[Fault]); 6] = [
+pub const NEVER_FIRST: [(Seat, &[Fault]); 7] = [
     ((IN_CASE, UNKNOWN), &[NoHeadFirst, FallingTag, BodyCut]),
     ((IN_BOOK, UNKNOWN), &[NoTableInBook, BodyCut]),
     ((IN_BOOK, HEAD_TAG), &[Length, BodyCut]),
     ((IN_BOOK, STATION_TAG), &[Length, BodyCut]),
     ((IN_BOOK, TRACK_TAG), &[Length, BodyCut]),
     ((IN_BOOK, TRAIN_TAG), &[Length, BodyCut]),
+    ((IN_BOOK, COUPLE_TAG), &[Length, BodyCut]),
 ];
 
 /// Faults that never meet in one field: any of the first with any of the second.
-const NEVER_TOGETHER: [(&[Fault], &[Fault]); 8] = [
+const NEVER_TOGETHER: [(&[Fault], &[Fault]); 14] = [
     // A header that is cut has no length and no body.
     (&[HeaderCut], &[Length, BodyCut]),
     // Two values of one number.
     (&[TagZero, LastMinuteZero], &[TagAbove, LastMinuteHigh]),
     (&[RoomZero, TypeEqual], &[RoomHigh, TypeFalls]),
     (&[SumLow], &[SumHigh]),
-    // No tag above 5 falls.
+    // No tag above 6 falls.
     (&[TagAbove], &[FallingTag]),
     // An earlier track has two known and different ends.
     (&[EarlierEnds], &[UnknownFrom, UnknownTo, EqualEnds]),
-    // Before a first field there is nothing: no head, no full count, no track, no table.
+    // A track that is not known has no ends, no capacity and no couple, and a track has one capacity.
+    (&[FirstTrackUnknown], &[EndsNotMirrored, CapacitiesUnequal]),
+    (&[SecondTrackUnknown], &[EndsNotMirrored, CapacitiesUnequal]),
+    (&[FirstTrackUnknown], &[FirstTrackCoupled]),
+    (&[SecondTrackUnknown], &[SecondTrackCoupled]),
+    (&[TrackWithItself], &[CapacitiesUnequal]),
+    // Before a first field there is nothing: no head, no full count, no track, no table, no couple.
     (&[NoHeadFirst], &[FallingTag, TooMany, EarlierEnds]),
     (&[NoHeadFirst], &[PastLastMinute, TypeEqual, TypeFalls]),
+    (&[NoHeadFirst], COUPLED),
+];
+
+/// What can be said only of a couple with a known track.
+const COUPLED: &[Fault] = &[
+    EndsNotMirrored,
+    CapacitiesUnequal,
+    FirstTrackCoupled,
+    SecondTrackCoupled,
 ];
 
 /// Whether two faults can meet in one field.

@@ -1,6 +1,7 @@
 //! What the first of the fixed inputs reach, on which the exported functions are compared: each kind of refusal in each field it can stand in, each two faults that
 //! can meet in one field, held entries split again and again, pieces held at each count, entries of the most weight,
-//! blocks that go from each part of the list, alone and together, and each refusal of a call. No count may be zero.
+//! blocks that go from each part of the list, alone and together, pieces held at the partner of a coupled track and behind it, and each refusal of a call.
+//! No count may be zero.
 
 mod calls;
 mod counts;
@@ -8,3 +9,4 @@ mod faults;
 mod kinds;
 mod runs;
 mod sweeps;
+mod waits;
