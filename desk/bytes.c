@@ -56,6 +56,7 @@ static void take_table(const uint8_t *body, unsigned size, struct tables *tables
 static void take_field(unsigned tag, const uint8_t *body, unsigned size, struct level *level)
 {
     struct track *track;
+    struct couple *couple;
     switch (tag) {
     case TAG_HEAD:
         level->head.last = word(body);
@@ -73,6 +74,11 @@ static void take_field(unsigned tag, const uint8_t *body, unsigned size, struct 
         break;
     case TAG_TRAIN:
         take_train(body, size, &level->train[level->trains++]);
+        break;
+    case TAG_COUPLE:
+        couple = &level->couple[level->couples++];
+        couple->track[0] = body[0];
+        couple->track[1] = body[1];
         break;
     default:
         take_table(body, size, &level->tables);
@@ -157,6 +163,13 @@ static void put_tables(struct bytes *bytes, const struct tables *tables)
     }
 }
 
+static void put_couple(struct bytes *bytes, const struct couple *couple)
+{
+    put_header(bytes, TAG_COUPLE, 2);
+    put_byte(bytes, couple->track[0]);
+    put_byte(bytes, couple->track[1]);
+}
+
 void put_case(const struct level *level, struct bytes *bytes)
 {
     bytes->length = 0;
@@ -170,6 +183,8 @@ void put_case(const struct level *level, struct bytes *bytes)
     for (unsigned i = 0; i < level->trains; i++)
         put_train(bytes, &level->train[i]);
     put_tables(bytes, &level->tables);
+    for (unsigned i = 0; i < level->couples; i++)
+        put_couple(bytes, &level->couple[i]);
 }
 
 void put_book(const struct tables *book, struct bytes *bytes)

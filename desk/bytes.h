@@ -15,7 +15,7 @@ struct bytes {
     size_t length;
 };
 
-enum tag { TAG_HEAD = 1, TAG_STATION, TAG_TRACK, TAG_TRAIN, TAG_TABLE };
+enum tag { TAG_HEAD = 1, TAG_STATION, TAG_TRACK, TAG_TRAIN, TAG_TABLE, TAG_COUPLE, LAST_TAG = TAG_COUPLE };
 
 /* A field of a file: where it stands, its number counted from 1, and which of its kind it is, counted from 0 (train 2, say). */
 struct field {

@@ -37,6 +37,10 @@ static void print_sound(void)
     fputs(", ", stdout);
     print_count(level->tracks, "track", "tracks");
     fputs(", ", stdout);
+    if (level->couples > 0) {
+        print_count(level->couples, "couple", "couples");
+        fputs(", ", stdout);
+    }
     print_count(level->trains, "train", "trains");
     printf("; window 0 to %u\n%" PRIu32 " combination%s of delays; the run needs %u of %u rows\n", level->head.last, choices, choices == 1 ? "" : "s",
            least_room(&study), level->head.room);
@@ -61,6 +65,29 @@ static void print_conflicts(void)
             printf("%s (+%u)", train->name, (unsigned)a.value - due);
     }
     puts(held == 0 ? "with the least delays no train is held up by another" : "");
+}
+
+static int is_driven_on(unsigned track)
+{
+    for (unsigned k = 0; k < study.level.trains; k++)
+        for (unsigned i = 1; i < study.level.train[k].stops; i++)
+            if (track_between(&study.level, study.level.train[k].stop[i - 1].station, study.level.train[k].stop[i].station) == track)
+                return 1;
+    return 0;
+}
+
+/* Couples that make no difference, because trains drive one way at most. */
+static void print_idle_couples(void)
+{
+    for (unsigned i = 0; i < study.level.couples; i++) {
+        const unsigned *track = study.level.couple[i].track;
+        const char *first = study.level.track[track[0]].name, *second = study.level.track[track[1]].name;
+        int driven[2] = {is_driven_on(track[0]), is_driven_on(track[1])};
+        if (driven[0] && driven[1])
+            continue;
+        printf("that %s and %s are coupled makes no difference: no train drives on %s", first, second, driven[0] ? second : first);
+        puts(driven[0] || driven[1] ? "" : " or back");
+    }
 }
 
 static int is_of_case(const struct table *table)
@@ -97,6 +124,7 @@ int command_check(const struct request *request)
     }
     print_sound();
     print_conflicts();
+    print_idle_couples();
     for (unsigned i = 0; i < study.level.trains; i++)
         print_train(&study.level.train[i]);
     return end_output(stdout, NULL);

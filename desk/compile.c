@@ -17,7 +17,7 @@ static int see_text(const struct bytes *bytes, int is_text)
         return ANSWERED;
     if (bytes->length == 0)
         return misused("%s is empty: there is no text to compile", study.case_name);
-    if (bytes->at[0] < TAG_HEAD || bytes->at[0] > TAG_TABLE)
+    if (bytes->at[0] < TAG_HEAD || bytes->at[0] > LAST_TAG)
         return misused("%s is no text: it has control characters, or is not saved as UTF-8", study.case_name);
     return misused("%s is bytes already: only text is compiled", study.case_name);
 }

@@ -21,10 +21,16 @@ struct presence {
 /* Runs to each minute and adds up; the answer of the run that was refused, or of the last. */
 struct lampreysong_answer gather_presence(const struct study *study, struct lent *lent, struct presence *presence);
 
+/* A station, a track, or two coupled tracks, which are the same rails. */
+struct band {
+    unsigned elements;
+    unsigned element[2];
+};
+
 /* The elements that paths use, in the order in which trains pass them. */
 struct bands {
     unsigned count;
-    unsigned element[ELEMENTS];
+    struct band band[ELEMENTS];
 };
 void order_bands(const struct level *level, struct bands *bands);
 

@@ -6,11 +6,12 @@
 enum { MOST_NAMES = 5200, NAME_GAP = 150, HOLDS = 1250 };
 enum { TITLE_FOOT = 380, TELLS_FOOT = 800, LEGEND_TOP = 1030, LEGEND_ROW = 350, LEGEND_COLUMNS = 3, SAMPLE = 900, SAMPLE_HEIGHT = 230 };
 enum { MINUTES_ABOVE = 480, MINUTES_BELOW = 720, TICK = 70, LEAST_TICKS = 750 };
-enum { MOST_BAND = 1500, LEAST_SEEN = 10, MOST_LABEL = 3400, START = 55 };
+enum { MOST_BAND = 1500, LEAST_SEEN = 10, MOST_LABEL = 3400, START = 55, ARROW = 45 };
 
 #define STANDING_STYLE "fill=\"#8a8a8a\""
 #define BLOCKED_STYLE "fill=\"#d2d2d2\""
 #define CASING_STYLE "fill=\"none\" stroke=\"#fff\" stroke-width=\"80\" stroke-opacity=\"0.8\" stroke-linejoin=\"round\""
+#define ARROW_STYLE "fill=\"none\" stroke=\"#000\" stroke-width=\"20\" stroke-linejoin=\"round\""
 #define PATH_STYLE "fill=\"none\" stroke=\"#000\" stroke-width=\"32\" stroke-linejoin=\"round\""
 
 /* Each train's dashes. */
@@ -91,10 +92,11 @@ static void lay_out(struct sheet *sheet)
 {
     const struct level *level = &sheet->study->level;
     long names = sheet->waiting > 0 ? svg_width_of("waiting outside", SVG_SMALL) : 0, room;
-    for (unsigned i = 0; i < sheet->bands.count; i++) {
-        long width = svg_width_of(element_name(level, sheet->bands.element[i]), SVG_SMALL) * 11 / 10;
-        names = width > names ? width : names;
-    }
+    for (unsigned i = 0; i < sheet->bands.count; i++)
+        for (unsigned k = 0; k < sheet->bands.band[i].elements; k++) {
+            long width = svg_width_of(element_name(level, sheet->bands.band[i].element[k]), SVG_SMALL) * 11 / 10;
+            names = width > names ? width : names;
+        }
     sheet->left = (names < MOST_NAMES ? names : MOST_NAMES) + NAME_GAP;
     sheet->right = SVG_WIDTH - HOLDS;
     sheet->top = LEGEND_TOP + (long)legend_rows(level) * LEGEND_ROW + MINUTES_ABOVE;
@@ -105,17 +107,22 @@ static void lay_out(struct sheet *sheet)
 
 /* ---- bands */
 
-/* What fills a band: weights by minute, and the weight that is its full height. */
+/* What fills a band: weights by minute, which are added up, and the weight that is its full height. */
+enum { MOST_ADDED = 4 }; /* standing and blocked, there and back */
 struct filling {
-    const uint64_t *first, *second; /* the second, if it is there, comes on top */
+    const uint64_t *added[MOST_ADDED];
+    unsigned count;
     uint64_t full;
     long foot;
 };
 
 static long filled_height(const struct sheet *sheet, const struct filling *filling, unsigned minute)
 {
-    uint64_t weight = filling->first[minute] + (filling->second != NULL ? filling->second[minute] : 0);
-    long height = (long)(weight * (uint64_t)sheet->band_height / filling->full);
+    uint64_t weight = 0;
+    long height;
+    for (unsigned i = 0; i < filling->count; i++)
+        weight += filling->added[i][minute];
+    height = (long)(weight * (uint64_t)sheet->band_height / filling->full);
     return weight > 0 && height < LEAST_SEEN ? LEAST_SEEN : height;
 }
 
@@ -138,10 +145,30 @@ static void draw_filling(FILE *out, const struct sheet *sheet, const struct fill
         fprintf(out, "H%ldV%ldZ\" %s/>\n", sheet->right, filling->foot, style);
 }
 
-static void draw_row_words(FILE *out, const struct sheet *sheet, unsigned row, struct words name)
+/* A name before its row, `down` below the row's middle. */
+static void draw_row_words(FILE *out, const struct sheet *sheet, unsigned row, struct words name, long down)
 {
-    long foot = row_top(sheet, row) + sheet->band_height / 2 + name.size * 35 / 100;
+    long foot = row_top(sheet, row) + sheet->band_height / 2 + down + name.size * 35 / 100;
     svg_words(out, (struct words){name.text, sheet->left - NAME_GAP, foot, name.size, sheet->left - NAME_GAP, UP_TO_HERE, name.bold});
+}
+
+/* The name of a band, or the two names of coupled tracks one below the other. */
+static void draw_names(FILE *out, const struct sheet *sheet, unsigned row, const struct band *band)
+{
+    long size = band->elements < 2 || sheet->band_height * 42 / 100 > SVG_SMALL ? SVG_SMALL : sheet->band_height * 42 / 100;
+    for (unsigned k = 0; k < band->elements; k++) {
+        long down = band->elements < 2 ? 0 : k == 0 ? -size * 6 / 10 : size * 6 / 10;
+        const char *name = element_name(&sheet->study->level, band->element[k]);
+        draw_row_words(out, sheet, row, (struct words){name, 0, 0, size, 0, UP_TO_HERE, band->element[k] < MOST_STATIONS}, down);
+    }
+}
+
+/* An arrow with a head at its top and one at its foot: trains run both ways here. */
+static void draw_both_ways(FILE *out, long x, long top, long foot)
+{
+    fprintf(out, "<path d=\"M%ld %ldV%ld", x, top, foot);
+    fprintf(out, "M%ld %ldL%ld %ldL%ld %ld", x - ARROW, top + ARROW, x, top, x + ARROW, top + ARROW);
+    fprintf(out, "M%ld %ldL%ld %ldL%ld %ld\" %s/>\n", x - ARROW, foot - ARROW, x, foot, x + ARROW, foot - ARROW, ARROW_STYLE);
 }
 
 static void draw_holds(FILE *out, const struct sheet *sheet, unsigned row, const char *holds)
@@ -153,25 +180,31 @@ static void draw_holds(FILE *out, const struct sheet *sheet, unsigned row, const
 static void draw_band(FILE *out, const struct sheet *sheet, unsigned row)
 {
     const struct level *level = &sheet->study->level;
-    unsigned element = sheet->bands.element[row - (sheet->waiting > 0)], capacity = element_capacity(level, element);
-    struct filling both = {sheet->presence->standing[element], sheet->presence->blocked[element], sheet->whole * capacity, row_top(sheet, row + 1)};
-    struct filling standing = both;
+    const struct band *band = &sheet->bands.band[row - (sheet->waiting > 0)];
+    unsigned capacity = element_capacity(level, band->element[0]); /* coupled tracks have the same */
+    struct filling standing = {{NULL}, 0, sheet->whole * capacity, row_top(sheet, row + 1)}, both;
     char holds[16];
-    standing.second = NULL;
+    for (unsigned k = 0; k < band->elements; k++)
+        standing.added[standing.count++] = sheet->presence->standing[band->element[k]];
+    both = standing;
+    for (unsigned k = 0; k < band->elements; k++)
+        both.added[both.count++] = sheet->presence->blocked[band->element[k]];
     draw_filling(out, sheet, &both, BLOCKED_STYLE);
     draw_filling(out, sheet, &standing, STANDING_STYLE);
     snprintf(holds, sizeof holds, "holds %u", capacity);
-    draw_row_words(out, sheet, row, (struct words){element_name(level, element), 0, 0, SVG_SMALL, 0, UP_TO_HERE, element < MOST_STATIONS});
+    draw_names(out, sheet, row, band);
     draw_holds(out, sheet, row, holds);
+    if (band->elements == 2)
+        draw_both_ways(out, sheet->right + NAME_GAP / 2, row_top(sheet, row) + ARROW, row_top(sheet, row + 1) - ARROW);
 }
 
 static void draw_waiting(FILE *out, const struct sheet *sheet)
 {
-    struct filling waiting = {sheet->presence->waiting, NULL, sheet->whole * sheet->waiting, row_top(sheet, 1)};
+    struct filling waiting = {{sheet->presence->waiting}, 1, sheet->whole * sheet->waiting, row_top(sheet, 1)};
     char height[24];
     snprintf(height, sizeof height, "%u train%s", sheet->waiting, sheet->waiting == 1 ? "" : "s");
     draw_filling(out, sheet, &waiting, STANDING_STYLE);
-    draw_row_words(out, sheet, 0, (struct words){"waiting outside", 0, 0, SVG_SMALL, 0, UP_TO_HERE, 0});
+    draw_row_words(out, sheet, 0, (struct words){"waiting outside", 0, 0, SVG_SMALL, 0, UP_TO_HERE, 0}, 0);
     draw_holds(out, sheet, 0, height);
 }
 
@@ -300,14 +333,29 @@ static void legend_words(FILE *out, struct box place, const char *text)
     svg_words(out, (struct words){text, place.left + SAMPLE + 120, place.top + SAMPLE_HEIGHT, SVG_SMALL, place.width - SAMPLE - 240, FROM_HERE, 0});
 }
 
-static void draw_legend(FILE *out, const struct level *level)
+/* Whether some band is that of coupled tracks. */
+static int runs_both_ways(const struct sheet *sheet)
 {
+    for (unsigned i = 0; i < sheet->bands.count; i++)
+        if (sheet->bands.band[i].elements == 2)
+            return 1;
+    return 0;
+}
+
+static void draw_legend(FILE *out, const struct sheet *sheet)
+{
+    const struct level *level = &sheet->study->level;
     struct box place = legend_place(0);
     svg_rect(out, (struct box){place.left, place.top + 30, SAMPLE, SAMPLE_HEIGHT}, STANDING_STYLE);
     legend_words(out, place, "trains that are there");
     place = legend_place(1);
     svg_rect(out, (struct box){place.left, place.top + 30, SAMPLE, SAMPLE_HEIGHT}, BLOCKED_STYLE);
     legend_words(out, place, "still blocked after a train left");
+    place = legend_place(2);
+    if (runs_both_ways(sheet)) {
+        draw_both_ways(out, place.left + SAMPLE / 2, place.top + 30, place.top + 30 + SAMPLE_HEIGHT);
+        legend_words(out, place, "both ways on the same rails");
+    }
     for (unsigned k = 0; k < level->trains; k++) {
         char name[NAME_BYTES + 20];
         place = legend_place(LEGEND_COLUMNS + k);
@@ -322,8 +370,14 @@ static void describe(FILE *out, const struct sheet *sheet)
     const struct level *level = &sheet->study->level;
     fprintf(out, "<desc>Minutes 0 to %u from left to right. Places from top to bottom:", level->head.last);
     for (unsigned i = 0; i < sheet->bands.count; i++) {
+        const struct band *band = &sheet->bands.band[i];
         fputs(i > 0 ? ", " : " ", out);
-        svg_escaped(out, element_name(level, sheet->bands.element[i]));
+        svg_escaped(out, element_name(level, band->element[0]));
+        if (band->elements == 2) {
+            fputs(" and ", out);
+            svg_escaped(out, element_name(level, band->element[1]));
+            fputs(" on the same rails", out);
+        }
     }
     fputs(".\n", out);
     for (unsigned k = 0; k < level->trains; k++) {
@@ -353,7 +407,7 @@ void draw_shift(FILE *out, const struct study *study, const struct presence *pre
     describe(out, &sheet);
     svg_words(out, (struct words){picture_title(study), 0, TITLE_FOOT, SVG_TITLE, SVG_WIDTH, FROM_HERE, 1});
     svg_words(out, (struct words){tells, 0, TELLS_FOOT, SVG_NORMAL, SVG_WIDTH, FROM_HERE, 0});
-    draw_legend(out, &study->level);
+    draw_legend(out, &sheet);
     draw_minutes(out, &sheet);
     draw_bands(out, &sheet);
     draw_paths(out, &sheet);

@@ -26,6 +26,15 @@ unsigned track_between(const struct level *level, unsigned from, unsigned to)
     return level->tracks;
 }
 
+unsigned partner_of(const struct level *level, unsigned track)
+{
+    for (unsigned i = 0; i < level->couples; i++)
+        for (unsigned k = 0; k < 2; k++)
+            if (level->couple[i].track[k] == track)
+                return level->couple[i].track[1 - k];
+    return level->tracks;
+}
+
 unsigned planned_arrival(const struct train *train)
 {
     return train->stop[train->stops - 1].arrival;

@@ -10,6 +10,7 @@ enum {
     MOST_TRACKS = 40,
     MOST_TRAINS = 7,
     MOST_TABLES = 8,
+    MOST_COUPLES = 20,
     MOST_STOPS = 8,
     MOST_PAIRS = 8,
     MOST_MINUTE = 719,
@@ -64,6 +65,12 @@ struct table {
     unsigned line;
 };
 
+/* Two tracks, there and back, on the same rails: while a train is on one of them, none enters the other. */
+struct couple {
+    unsigned track[2];
+    unsigned line;
+};
+
 /* The delay tables of a case or of a book. */
 struct tables {
     unsigned count;
@@ -73,11 +80,12 @@ struct tables {
 struct level {
     char title[TITLE_BYTES + 1]; /* empty if it has none */
     struct head head;
-    unsigned stations, tracks, trains;
+    unsigned stations, tracks, trains, couples;
     struct station station[MOST_STATIONS];
     struct track track[MOST_TRACKS];
     struct train train[MOST_TRAINS];
     struct tables tables;
+    struct couple couple[MOST_COUPLES];
 };
 
 /* The table that a train's type takes: the case's if it has one of that type, otherwise the book's; null if neither has. */
@@ -85,6 +93,9 @@ const struct table *table_of(const struct level *level, const struct tables *boo
 
 /* The number of the track from one station to another; the number of tracks if there is none. */
 unsigned track_between(const struct level *level, unsigned from, unsigned to);
+
+/* The track that a track is coupled with; the number of tracks if there is none. */
+unsigned partner_of(const struct level *level, unsigned track);
 
 /* The minute in which a train is planned to reach its last station. */
 unsigned planned_arrival(const struct train *train);

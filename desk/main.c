@@ -7,8 +7,8 @@
 #include "refusal.h"
 #include "said.h"
 
-#define VERSION "1.2"
-#define RULES "document 01, change requests 4 and 10 of document 02"
+#define VERSION "1.3"
+#define RULES "document 01, change requests 1, 4 and 10 of document 02"
 
 /* The toolchain that proved the engine; who builds says it. */
 #ifndef TOOLCHAIN
@@ -23,7 +23,7 @@ static int version(void)
 
 static int refusals(void)
 {
-    for (unsigned number = LAMPREYSONG_OVERRUN; number <= LAMPREYSONG_STOP_TOO_LATE; number++)
+    for (unsigned number = LAMPREYSONG_OVERRUN; number <= LAMPREYSONG_WRONG_COUPLE; number++)
         if (is_refusal(number))
             printf("%2u  %s\n", number, refusal_meaning(number));
     puts("\n13 is retired: no call gives it, and it is not used again.");

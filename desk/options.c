@@ -11,7 +11,8 @@
 static const struct command commands[] = {
     {"check", "say whether a case is sound, and what it holds",
      "It judges the files as every run does, says how much of its room the run needs, and which trains are held up\n"
-     "by others even where each has its least delay: then the plan stands in its own way.",
+     "by others even where each has its least delay: then the plan stands in its own way. It also names tracks that are\n"
+     "coupled to no effect, because no train drives there or back.",
      TAKES_BOOK | TAKES_NAMES, command_check},
     {"listing", "print the minutes in which each train can arrive, with their weights",
      "All choices of delays together weigh 100 to the power of the number of trains. The weight of a minute\n"
@@ -31,7 +32,7 @@ static const struct command commands[] = {
     {"draw", "draw a picture (SVG) of each train's arrivals, or of the shift",
      "Without --shift it draws each train's arrivals: the plan, the weight of each minute, what has not arrived, and\n"
      "the summed curve. With --shift it draws the planned paths over stations and tracks by minute, and how many\n"
-     "trains stand where, on average of all choices.",
+     "trains stand where, on average of all choices. Tracks that are coupled are drawn as one place.",
      TAKES_BOOK | TAKES_NAMES | TAKES_SHIFT | TAKES_OUTPUT, command_draw},
     {"compile", "make the bytes of a case or a book from its text",
      "A text that can't be compiled is refused with line, column and what was expected there. Bytes that the reader\n"

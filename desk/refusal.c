@@ -10,10 +10,10 @@ enum { MOST_SHOWN = 16 }; /* bytes of a field */
 
 static const char *const meanings[] = {
     [LAMPREYSONG_OVERRUN] = "a field's header or body runs past the end",
-    [LAMPREYSONG_UNKNOWN_TAG] = "tag 0 or above 5",
+    [LAMPREYSONG_UNKNOWN_TAG] = "tag 0 or above 6",
     [LAMPREYSONG_MISPLACED] = "in a case: first field no head, a second head or a falling tag; in a book: a tag other than 5",
     [LAMPREYSONG_WRONG_LENGTH] = "length not possible for the tag",
-    [LAMPREYSONG_WRONG_COUNT] = "one station, track, train or table too many; at the end of a case, no head, station or train",
+    [LAMPREYSONG_WRONG_COUNT] = "one station, track, train, table or couple too many; at the end of a case, no head, station or train",
     [LAMPREYSONG_OUT_OF_RANGE] = "last minute, safety time, room or capacity out of range",
     [LAMPREYSONG_WRONG_ENDS] = "track with an unknown end, equal ends, or the ends of an earlier track",
     [LAMPREYSONG_WRONG_PATH] = "path with an unknown or repeated station or a missing track",
@@ -25,6 +25,7 @@ static const char *const meanings[] = {
     [LAMPREYSONG_WRONG_CHOICE] = "choice with a wrong count or an index past the table",
     [LAMPREYSONG_NO_TRAIN] = "no such train",
     [LAMPREYSONG_STOP_TOO_LATE] = "stop minute above the last minute",
+    [LAMPREYSONG_WRONG_COUPLE] = "couple with an unknown track, ends that don't mirror, unequal capacities, or a track already coupled",
 };
 
 static void (*const words_of[])(const struct fault *fault, struct words *words) = {
@@ -40,6 +41,7 @@ static void (*const words_of[])(const struct fault *fault, struct words *words) 
     [LAMPREYSONG_WRONG_TABLE] = words_of_table,
     [LAMPREYSONG_NO_TABLE] = words_of_type,
     [LAMPREYSONG_NO_ROOM] = words_of_room,
+    [LAMPREYSONG_WRONG_COUPLE] = words_of_couple,
 };
 
 #define COUNT(list) (sizeof(list) / sizeof *(list))

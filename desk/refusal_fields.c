@@ -3,7 +3,7 @@
 
 #include "refusal_words.h"
 
-static const char *const several[] = {NULL, "heads", "stations", "tracks", "trains", "delay tables"};
+static const char *const several[] = {NULL, "heads", "stations", "tracks", "trains", "delay tables", "couples"};
 
 static const char *file_kind(const struct fault *fault)
 {
@@ -95,7 +95,7 @@ void words_of_tag(const struct fault *fault, struct words *words)
         say_mend(words, "save the text as UTF-8.");
         return;
     }
-    say_wrong(words, "the tag is %u; tags are 1 head, 2 station, 3 track, 4 train and 5 delay table.", fault->field.tag);
+    say_wrong(words, "the tag is %u; tags are 1 head, 2 station, 3 track, 4 train, 5 delay table and 6 couple.", fault->field.tag);
     if (fault->field.place == 0)
         words_of_first_tag(fault, words);
     else
@@ -119,7 +119,7 @@ static void words_of_book_order(const struct fault *fault, struct words *words)
 /* The highest tag before the field is that of the field right before it. */
 static unsigned tag_before(const struct fault *fault)
 {
-    unsigned tag = TAG_TABLE;
+    unsigned tag = LAST_TAG;
     while (tag > 0 && count_before(fault->bytes, tag, fault->field.place) == 0)
         tag--;
     return tag;
@@ -150,14 +150,14 @@ void words_of_order(const struct fault *fault, struct words *words)
         say_mend(words, "take one of the two out.");
     } else if (tag < before) {
         say_wrong(words, "a %s (tag %u) stands after a %s (tag %u).", kind_of(tag), tag, kind_of(before), before);
-        say_mend(words, "the order is head, stations, tracks, trains, delay tables: put it before the first %s.", kind_of(before));
+        say_mend(words, "the order is head, stations, tracks, trains, delay tables, couples: put it before the first %s.", kind_of(before));
     }
 }
 
 /* ---- 4 */
 
 static const char *const lengths[] = {NULL, "5 bytes", "1 byte", "3 bytes", "12, 17, 22, 27, 32, 37 or 42 bytes (2 to 8 stops)",
-                                      "3, 5, 7, 9, 11, 13, 15 or 17 bytes (1 to 8 delays)"};
+                                      "3, 5, 7, 9, 11, 13, 15 or 17 bytes (1 to 8 delays)", "2 bytes"};
 
 /* A text has no lengths, but stops and delays. */
 static void words_of_text_length(const struct fault *fault, struct words *words)
@@ -187,7 +187,7 @@ void words_of_length(const struct fault *fault, struct words *words)
 
 /* ---- 5 */
 
-static const unsigned most[] = {0, 1, MOST_STATIONS, MOST_TRACKS, MOST_TRAINS, MOST_TABLES};
+static const unsigned most[] = {0, 1, MOST_STATIONS, MOST_TRACKS, MOST_TRAINS, MOST_TABLES, MOST_COUPLES};
 
 static void words_of_many(const struct fault *fault, struct words *words)
 {
@@ -195,7 +195,9 @@ static void words_of_many(const struct fault *fault, struct words *words)
     if (kind_of(tag) == NULL || fault->field.nth < most[tag])
         return;
     say_wrong(words, "a %s has at most %u %s, and this is one more.", file_kind(fault), most[tag], several[tag]);
-    if (tag != TAG_TABLE)
+    if (tag == TAG_COUPLE)
+        say_mend(words, "take it out: after %u couples every track that a case can have is in one.", most[tag]);
+    else if (tag != TAG_TABLE)
         say_mend(words, "take out a %s that can be spared.", kind_of(tag));
     else
         say_mend(words, fault->in_book ? "take out a table whose type no train has." : "take out a table whose type no train has, or put tables into a book.");

@@ -4,11 +4,11 @@
 #include <stdarg.h>
 #include <string.h>
 
-static const char *const kinds[] = {NULL, "head", "station", "track", "train", "delay table"};
+static const char *const kinds[] = {NULL, "head", "station", "track", "train", "delay table", "couple"};
 
 const char *kind_of(unsigned tag)
 {
-    return tag >= TAG_HEAD && tag <= TAG_TABLE ? kinds[tag] : NULL;
+    return tag >= TAG_HEAD && tag <= LAST_TAG ? kinds[tag] : NULL;
 }
 
 int possible_length(unsigned tag, unsigned size)
@@ -24,6 +24,8 @@ int possible_length(unsigned tag, unsigned size)
         return size >= 12 && size <= 42 && size % 5 == 2;
     case TAG_TABLE:
         return size >= 3 && size <= 17 && size % 2 == 1;
+    case TAG_COUPLE:
+        return size == 2;
     default:
         return 0;
     }
@@ -52,6 +54,17 @@ const uint8_t *nth_body(const struct bytes *bytes, unsigned tag, unsigned nth)
         if (field.tag == tag && field.nth == nth)
             return possible_length(tag, field.size) ? bytes->at + field.place + FIELD_HEADER : NULL;
     return NULL;
+}
+
+unsigned track_with_ends(const struct fault *fault, unsigned from, unsigned to)
+{
+    unsigned tracks = count_before(fault->bytes, TAG_TRACK, fault->field.place), track;
+    for (track = 0; track < tracks; track++) {
+        const uint8_t *body = nth_body(fault->bytes, TAG_TRACK, track);
+        if (body != NULL && body[0] == from && body[1] == to)
+            break;
+    }
+    return track;
 }
 
 unsigned number_at(const uint8_t *at)
@@ -111,6 +124,18 @@ struct called table_called(const struct fault *fault, unsigned number)
     return named("delay table", table != NULL ? table->name : NULL, number);
 }
 
+struct called couple_called(const struct fault *fault, unsigned number)
+{
+    const struct level *level = text_level(fault);
+    struct called first, second, called;
+    if (level == NULL || number >= level->couples)
+        return named("couple", NULL, number);
+    first = track_called(fault, level->couple[number].track[0]);
+    second = track_called(fault, level->couple[number].track[1]);
+    snprintf(called.text, sizeof called.text, "couple%s%s", strchr(first.text, ' '), strchr(second.text, ' '));
+    return called;
+}
+
 struct called element_called(const struct fault *fault)
 {
     switch (fault->field.tag) {
@@ -122,6 +147,8 @@ struct called element_called(const struct fault *fault)
         return train_called(fault, fault->field.nth);
     case TAG_TABLE:
         return table_called(fault, fault->field.nth);
+    case TAG_COUPLE:
+        return couple_called(fault, fault->field.nth);
     default:
         return (struct called){"the head"};
     }
@@ -140,6 +167,8 @@ unsigned element_line(const struct fault *fault)
         return level->station[nth].line;
     if (fault->field.tag == TAG_TRACK && nth < level->tracks)
         return level->track[nth].line;
+    if (fault->field.tag == TAG_COUPLE && nth < level->couples)
+        return level->couple[nth].line;
     return fault->field.tag == TAG_TRAIN && nth < level->trains ? level->train[nth].line : 0;
 }
 

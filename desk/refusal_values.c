@@ -66,18 +66,6 @@ static int is_unknown(const struct fault *fault, unsigned station, const char *w
     return 1;
 }
 
-/* The first track before the field with these ends; the number of tracks before it if there is none. */
-static unsigned track_with_ends(const struct fault *fault, unsigned from, unsigned to)
-{
-    unsigned tracks = count_before(fault->bytes, TAG_TRACK, fault->field.place), track;
-    for (track = 0; track < tracks; track++) {
-        const uint8_t *body = nth_body(fault->bytes, TAG_TRACK, track);
-        if (body != NULL && body[0] == from && body[1] == to)
-            break;
-    }
-    return track;
-}
-
 void words_of_ends(const struct fault *fault, struct words *words)
 {
     const uint8_t *body = body_of(fault);

@@ -4,7 +4,7 @@
 
 #include "refusal.h"
 
-enum { FIELD_HEADER = 3, WRONG_BYTES = 1600, MEND_BYTES = 400, CALLED_BYTES = NAME_BYTES + 24 };
+enum { FIELD_HEADER = 3, WRONG_BYTES = 1600, MEND_BYTES = 400, CALLED_BYTES = 2 * NAME_BYTES + 24 };
 
 /* The place that was refused. */
 struct fault {
@@ -38,6 +38,7 @@ struct called station_called(const struct fault *fault, unsigned number);
 struct called track_called(const struct fault *fault, unsigned number);
 struct called train_called(const struct fault *fault, unsigned number);
 struct called table_called(const struct fault *fault, unsigned number);
+struct called couple_called(const struct fault *fault, unsigned number); /* `couple Face-Tip Tip-Face` */
 struct called named(const char *kind, const char *name, unsigned number); /* name is null if there is none */
 
 /* The element that the field describes, and its line. The head has none: a text says it on several. */
@@ -55,6 +56,9 @@ const uint8_t *body_of(const struct fault *fault);
 
 /* The body of the field that is the nth of its tag, counted from 0; null if there is none of a possible length. */
 const uint8_t *nth_body(const struct bytes *bytes, unsigned tag, unsigned nth);
+
+/* The first track before the field with these ends; the number of tracks before it if there is none. */
+unsigned track_with_ends(const struct fault *fault, unsigned from, unsigned to);
 
 /* A number of two bytes. */
 unsigned number_at(const uint8_t *at);
@@ -79,5 +83,6 @@ void words_of_times(const struct fault *fault, struct words *words);
 void words_of_table(const struct fault *fault, struct words *words);
 void words_of_type(const struct fault *fault, struct words *words);
 void words_of_room(const struct fault *fault, struct words *words);
+void words_of_couple(const struct fault *fault, struct words *words);
 
 #endif

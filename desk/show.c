@@ -55,8 +55,8 @@ static int show_as_text(const struct request *request)
 /* A tag as people say it, with the number among its kind: `4 train 0`. */
 static void print_tag(FILE *out, const struct field *field)
 {
-    static const char *const kinds[] = {"unknown", "head", "station", "track", "train", "delay table"};
-    unsigned known = field->tag <= TAG_TABLE ? field->tag : 0;
+    static const char *const kinds[] = {"unknown", "head", "station", "track", "train", "delay table", "couple"};
+    unsigned known = field->tag <= LAST_TAG ? field->tag : 0;
     char said[40];
     if (known == 0 || (known == TAG_HEAD && field->nth == 0))
         snprintf(said, sizeof said, "%u %s", field->tag, kinds[known]);

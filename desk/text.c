@@ -1,4 +1,5 @@
-/* A text compiled to a level: it is read twice, first for what there is, and then for the names that point to it. */
+/* A text compiled to a level: it is read three times, first for what there is, then for the names that point to it, and last for the tracks that are coupled,
+ * many of which have their names from their ends. */
 #include "text.h"
 
 #include <string.h>
@@ -9,7 +10,7 @@ static const struct statement {
     const char *keyword;
     int (*read)(struct compiling *c, const struct word *keyword);
 } statements[] = {{"title", read_title},     {"window", read_window}, {"safety", read_safety}, {"room", read_room},
-                  {"station", read_station}, {"track", read_track},   {"delays", read_table},  {"train", read_train}};
+                  {"station", read_station}, {"track", read_track},   {"couple", read_couple}, {"delays", read_table}, {"train", read_train}};
 
 static const struct statement *find_statement(const struct word *word)
 {
@@ -54,7 +55,7 @@ static int no_statement(struct compiling *c, const struct word *word)
                       said_word(word).text);
     if (c->is_book)
         return expected(c->reader.error, word, "`delays` is expected");
-    return expected(c->reader.error, word, "`title`, `window`, `safety`, `room`, `station`, `track`, `delays` or `train` is expected");
+    return expected(c->reader.error, word, "`title`, `window`, `safety`, `room`, `station`, `track`, `couple`, `delays` or `train` is expected");
 }
 
 static int read_stops(struct compiling *c, struct word *word)
@@ -110,11 +111,16 @@ static int read_text(struct compiling *c)
 
 int compile_case(const struct text *text, const struct tables *book, struct level *level, struct text_error *error)
 {
-    static struct level known;
-    struct compiling first = {.level = &known, .book = book}, second = {.level = level, .known = &known, .book = book};
-    begin_words(&first.reader, text, error);
-    begin_words(&second.reader, text, error);
-    return read_text(&first) && read_text(&second);
+    static struct level known, named;
+    struct compiling readings[] = {{.level = &known, .book = book},
+                                   {.level = &named, .known = &known, .book = book},
+                                   {.level = level, .known = &known, .named = &named, .book = book}};
+    for (unsigned i = 0; i < sizeof readings / sizeof *readings; i++) {
+        begin_words(&readings[i].reader, text, error);
+        if (!read_text(&readings[i]))
+            return 0;
+    }
+    return 1;
 }
 
 int compile_book(const struct text *text, struct tables *book, struct text_error *error)

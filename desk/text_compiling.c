@@ -109,6 +109,18 @@ int read_end(struct compiling *c, const struct word *keyword, unsigned *station)
     return next(c, &word) && find_station(c, &word, keyword, station);
 }
 
+int read_coupled(struct compiling *c, const struct word *after, struct word *word, unsigned *track)
+{
+    struct names names;
+    if (!next(c, word) || !judge_name(c, word, "the name of a track", after))
+        return 0;
+    if (c->named == NULL)
+        return 1;
+    names = track_names(c->named);
+    *track = find_name(&names, word);
+    return *track < names.count || no_such(c, word, "track", nearest_name(&names, word));
+}
+
 /* The table of a name: the case's, otherwise the book's; null, and an error, if neither has one. */
 static const struct table *find_table(struct compiling *c, const struct word *word)
 {

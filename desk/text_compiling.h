@@ -16,6 +16,7 @@ struct compiling {
     struct reader reader;
     struct level *level;
     const struct level *known; /* what the first reading found; null in the first */
+    const struct level *named; /* what the second found, with every track's name; null before the third */
     const struct tables *book;
     int is_book;         /* whether the text is a book's */
     struct train *train; /* whose stops may follow; null if there is none */
@@ -37,6 +38,9 @@ void store_name(const struct word *word, char *name);
 /* The number of the station that a word names; in the first reading the word is only judged. */
 int find_station(struct compiling *c, const struct word *word, const struct word *keyword, unsigned *station);
 int read_end(struct compiling *c, const struct word *keyword, unsigned *station);
+
+/* The next word, which stands after this one and names a track, and that track's number; before the third reading the word is only judged. */
+int read_coupled(struct compiling *c, const struct word *after, struct word *word, unsigned *track);
 
 /* The type of the table that a train names, which must also be the table that a train of this type takes. */
 int read_delays_of_train(struct compiling *c, const struct word *keyword, unsigned *type);
@@ -75,6 +79,7 @@ int read_safety(struct compiling *c, const struct word *keyword);
 int read_room(struct compiling *c, const struct word *keyword);
 int read_station(struct compiling *c, const struct word *keyword);
 int read_track(struct compiling *c, const struct word *keyword);
+int read_couple(struct compiling *c, const struct word *keyword);
 int read_table(struct compiling *c, const struct word *keyword);
 int read_train(struct compiling *c, const struct word *keyword);
 

@@ -1,4 +1,4 @@
-/* The statements of a level: its window and what else it has once, stations and tracks. */
+/* The statements of a level: its window and what else it has once, stations, tracks and couples. */
 #include <string.h>
 
 #include "text_compiling.h"
@@ -123,4 +123,36 @@ int read_track(struct compiling *c, const struct word *keyword)
     track->line = keyword->line;
     c->level->tracks++;
     return read_parts(c, &parts, &word) && (c->known == NULL || settle_track(c, keyword, has_name ? &name : NULL));
+}
+
+/* ---- couples */
+
+/* Sees that the last couple is no other once more. All else that is asked of its tracks is left to the reader. */
+static int settle_couple(struct compiling *c, const struct word *first, const struct word *second)
+{
+    const struct couple *couple = &c->level->couple[c->level->couples - 1];
+    for (const struct couple *other = c->level->couple; other < couple; other++)
+        for (unsigned turn = 0; turn < 2; turn++)
+            if (other->track[turn] == couple->track[0] && other->track[1 - turn] == couple->track[1])
+                return refuse(c->reader.error, first, "%s and %s are coupled in line %u already; write each couple once", said_word(first).text,
+                              said_word(second).text, other->line);
+    return 1;
+}
+
+int read_couple(struct compiling *c, const struct word *keyword)
+{
+    struct couple *couple = &c->level->couple[c->level->couples];
+    struct word first, second, end;
+    if (c->level->couples == MOST_COUPLES)
+        return too_many(c, keyword, "a case has", MOST_COUPLES, "couples");
+    couple->line = keyword->line;
+    if (!read_coupled(c, keyword, &first, &couple->track[0]) || !read_coupled(c, &first, &second, &couple->track[1]) || !next(c, &end))
+        return 0;
+    c->level->couples++;
+    if (ends(&end))
+        return c->named == NULL || settle_couple(c, &first, &second);
+    expected(c->reader.error, &end, "the end of the line is expected");
+    if (is_name(&end))
+        add_words(c->reader.error, "; a name with spaces stands in double quotes");
+    return 0;
 }

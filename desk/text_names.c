@@ -3,7 +3,7 @@
 
 #include <string.h>
 
-static const char statement_keywords[][9] = {"title", "window", "safety", "room", "station", "track", "delays", "train"};
+static const char statement_keywords[][9] = {"title", "window", "safety", "room", "station", "track", "couple", "delays", "train"};
 static const char part_keywords[][9] = {"holds", "from", "to", "type", "priority"};
 
 #define COUNT(list) (unsigned)(sizeof(list) / sizeof *(list))

@@ -56,7 +56,7 @@ static void put_name(struct text *text, const char *name, unsigned width)
     put(text, "%s%s%s%*s", quote, name, quote, (int)(width > own ? width - own : 0), "");
 }
 
-/* ---- what a level has once, stations and tracks */
+/* ---- what a level has once, stations, tracks and couples */
 
 static void put_head(struct text *text, const struct level *level)
 {
@@ -114,6 +114,22 @@ static void put_tracks(struct text *text, const struct level *level)
         put(text, "  to ");
         put_name(text, level->station[track->to].name, to);
         put(text, "  holds %u\n", track->capacity);
+    }
+}
+
+static void put_couples(struct text *text, const struct level *level)
+{
+    unsigned width = 0;
+    for (unsigned i = 0; i < level->couples; i++)
+        width = wider(width, name_width(level->track[level->couple[i].track[0]].name));
+    if (level->couples > 0)
+        put(text, "\n");
+    for (unsigned i = 0; i < level->couples; i++) {
+        put(text, "couple ");
+        put_name(text, level->track[level->couple[i].track[0]].name, width);
+        put(text, "  ");
+        put_name(text, level->track[level->couple[i].track[1]].name, 0);
+        put(text, "\n");
     }
 }
 
@@ -228,6 +244,7 @@ void show_case(const struct level *level, const struct tables *book, struct text
     put_head(text, level);
     put_stations(text, level);
     put_tracks(text, level);
+    put_couples(text, level);
     if (level->tables.count > 0)
         put(text, "\n");
     put_tables(text, &level->tables);

@@ -1,7 +1,7 @@
 /* The planning desk's calls: the single run, the joint run, the listing and the figures of a shift, and the field viewer.
  *
- * A case and a book are bytes (docs/FORMATS.md). Every call takes any bytes, damaged ones too: it answers, or it refuses with a number, a file
- * and a place. Nothing is kept between calls, nothing is allocated, and a call needs less than 512 KiB of stack.
+ * A case and a book are bytes (docs/FORMATS.md); a case that is accepted has at most 919 of them. Every call takes any bytes, damaged ones too: it
+ * answers, or it refuses with a number, a file and a place. Nothing is kept between calls, nothing is allocated, and a call needs less than 512 KiB of stack.
  *
  * Each pointer points to as many bytes as the length after it says; where that is 0, it is never followed and may be null. The case, the book and the
  * choice are only read, and may share bytes. Lent memory (rows, weights, text) is written: each of the three must share no byte with another of them,
@@ -20,10 +20,10 @@ extern "C" {
 /* Refusals: why a call was not answered. */
 enum {
     LAMPREYSONG_OVERRUN = 1,        /* a field's header or body runs past the end */
-    LAMPREYSONG_UNKNOWN_TAG = 2,    /* tag 0 or above 5 */
+    LAMPREYSONG_UNKNOWN_TAG = 2,    /* tag 0 or above 6 */
     LAMPREYSONG_MISPLACED = 3,      /* first field no head, a second head, a falling tag; in a book a tag other than 5 */
     LAMPREYSONG_WRONG_LENGTH = 4,   /* length not possible for the tag */
-    LAMPREYSONG_WRONG_COUNT = 5,    /* one too many; at the end of a case no head, station or train */
+    LAMPREYSONG_WRONG_COUNT = 5,    /* one station, track, train, table or couple too many; at the end of a case no head, station or train */
     LAMPREYSONG_OUT_OF_RANGE = 6,   /* last minute, safety time, room or capacity */
     LAMPREYSONG_WRONG_ENDS = 7,     /* track with an unknown end, equal ends, or the ends of an earlier track */
     LAMPREYSONG_WRONG_PATH = 8,     /* unknown or repeated station, or a missing track */
@@ -35,7 +35,8 @@ enum {
     LAMPREYSONG_TOO_SHORT = 14,     /* lent memory too short: nothing was written */
     LAMPREYSONG_WRONG_CHOICE = 15,  /* a choice with a wrong count or an index past the table */
     LAMPREYSONG_NO_TRAIN = 16,      /* no such train */
-    LAMPREYSONG_STOP_TOO_LATE = 17  /* stop minute above the last minute */
+    LAMPREYSONG_STOP_TOO_LATE = 17, /* stop minute above the last minute */
+    LAMPREYSONG_WRONG_COUPLE = 18   /* couple with an unknown track, ends that don't mirror, unequal capacities, or a track already coupled */
 };
 
 /* Bytes that a call must be lent. */
@@ -87,7 +88,8 @@ struct lampreysong_viewed {
     uint64_t next;    /* the viewer's place afterwards: past the field, or the same place if none was given */
 };
 
-/* The minute in which the choice (one index byte a train) brings the train to its last station. Refuses the files' faults (1 to 11), then 15, 16. */
+/* The minute in which the choice (one index byte a train) brings the train to its last station. Refuses the files' faults (1 to 11 and
+ * 18), then 15, 16. */
 struct lampreysong_answer lampreysong_single(const uint8_t *case_bytes, size_t case_length, const uint8_t *book, size_t book_length,
                                              const uint8_t *choice, size_t choice_length, uint64_t train);
 

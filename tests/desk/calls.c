@@ -35,15 +35,15 @@ static void layouts(void)
     expect(sizeof rows == 16384 && sizeof weights == 40320 && sizeof text == 32768, "the required lengths");
 }
 
-/* As 01 has them. 13 is retired, and no refusal has it. */
+/* As 01 and request 1 of 02 have them. 13 is retired, and no refusal has it. */
 static void refusals(void)
 {
     static const int numbers[] = {
         LAMPREYSONG_OVERRUN, LAMPREYSONG_UNKNOWN_TAG, LAMPREYSONG_MISPLACED, LAMPREYSONG_WRONG_LENGTH, LAMPREYSONG_WRONG_COUNT, LAMPREYSONG_OUT_OF_RANGE,
         LAMPREYSONG_WRONG_ENDS, LAMPREYSONG_WRONG_PATH, LAMPREYSONG_WRONG_TIMES, LAMPREYSONG_WRONG_TABLE, LAMPREYSONG_NO_TABLE, LAMPREYSONG_NO_ROOM,
-        LAMPREYSONG_TOO_SHORT, LAMPREYSONG_WRONG_CHOICE, LAMPREYSONG_NO_TRAIN, LAMPREYSONG_STOP_TOO_LATE};
-    for (int i = 0; i < 16; i++)
-        expect(numbers[i] == (i < 12 ? i + 1 : i + 2), "a refusal has 01's number");
+        LAMPREYSONG_TOO_SHORT, LAMPREYSONG_WRONG_CHOICE, LAMPREYSONG_NO_TRAIN, LAMPREYSONG_STOP_TOO_LATE, LAMPREYSONG_WRONG_COUPLE};
+    for (int i = 0; i < 17; i++)
+        expect(numbers[i] == (i < 12 ? i + 1 : i + 2), "a refusal has its number");
 }
 
 static void calls(void)

@@ -239,6 +239,21 @@ static int tags_within(const struct view *view)
 
 /* ---- both pictures of a study */
 
+/* In a minute no rails are fuller than they can be: in no choice do both tracks of a couple hold a train. */
+static int couples_are_kept(unsigned minute)
+{
+    for (unsigned i = 0; i < study.level.couples; i++) {
+        uint64_t sum = 0;
+        for (unsigned k = 0; k < 2; k++) {
+            unsigned element = MOST_STATIONS + study.level.couple[i].track[k];
+            sum += presence.standing[element][minute] + presence.blocked[element][minute];
+        }
+        if (sum > whole_weight(&study.level) * study.level.track[study.level.couple[i].track[0]].capacity)
+            return 0;
+    }
+    return 1;
+}
+
 /* In every minute each train is somewhere in every choice, and no place is fuller than it can be. */
 static int all_are_somewhere(void)
 {
@@ -252,7 +267,7 @@ static int all_are_somewhere(void)
             if (presence.standing[i][t] + presence.blocked[i][t] > whole * capacity)
                 return 0;
         }
-        if (sum != whole * level->trains)
+        if (sum != whole * level->trains || !couples_are_kept(t))
             return 0;
     }
     return 1;
@@ -453,6 +468,12 @@ static void seven_trains(void)
     expect(changed() == 0 && gather_presence(&study, &lent, &presence).refusal == LAMPREYSONG_NO_ROOM, "too small a room is refused before it is drawn");
 }
 
+/* Whether a band is that of one element alone. */
+static int is_band(const struct bands *order, unsigned band, unsigned element)
+{
+    return order->band[band].elements == 1 && order->band[band].element[0] == element;
+}
+
 static void bands(void)
 {
     static struct bands order;
@@ -466,10 +487,63 @@ static void bands(void)
     study.level.train[1].stop[1].station = 1;
     expect(changed() == 0, "a train that goes back is accepted");
     order_bands(&study.level, &order);
-    expect(order.count == 8 && order.element[0] == 0 && order.element[1] == MOST_STATIONS && order.element[2] == 1, "bands in the order of the first path");
-    expect(order.element[3] == MOST_STATIONS + 1 && order.element[4] == MOST_STATIONS + 3 && order.element[5] == 2, "the track back between its stations");
+    expect(order.count == 8 && is_band(&order, 0, 0) && is_band(&order, 1, MOST_STATIONS) && is_band(&order, 2, 1), "bands in the order of the first path");
+    expect(is_band(&order, 3, MOST_STATIONS + 1) && is_band(&order, 4, MOST_STATIONS + 3) && is_band(&order, 5, 2), "the track back between its stations");
     expect(band_of(&order, 4) == order.count, "a station that no path uses has no band");
     draw_both("arrivals with a train that goes back", "a shift with a train that goes back");
+}
+
+static int is_coupled_band(const struct bands *order, unsigned band, unsigned there, unsigned back)
+{
+    const struct band *found = &order->band[band];
+    return found->elements == 2 && found->element[0] == MOST_STATIONS + there && found->element[1] == MOST_STATIONS + back;
+}
+
+/* A line of three stations with coupled tracks; two trains meet on it. */
+static void make_branch(void)
+{
+    struct level *level = &study.level;
+    make_line(2, 3, 30);
+    level->track[2] = (struct track){"", 2, 1, 1, 0};
+    level->track[3] = (struct track){"", 1, 0, 1, 0};
+    level->tracks = 4;
+    for (unsigned i = 0; i < 3; i++)
+        level->train[1].stop[i].station = 2 - i;
+    level->couple[0] = (struct couple){{3, 0}, 0};
+    level->couple[1] = (struct couple){{1, 2}, 0};
+    level->couples = 2;
+    give_names(level);
+}
+
+static void couples(void)
+{
+    static struct bands order;
+    make_branch();
+    expect(changed() == 0, "coupled tracks are accepted");
+    order_bands(&study.level, &order);
+    expect(order.count == 5 && is_coupled_band(&order, 1, 0, 3) && is_coupled_band(&order, 3, 1, 2), "coupled tracks have one band");
+    expect(band_of(&order, MOST_STATIONS + 2) == 3 && is_band(&order, 2, 1), "the station in between stands between the bands");
+    draw_both("arrivals over coupled tracks", "a shift over coupled tracks");
+    expect(draws_well(1) && times(">holds 1</text>") == 2 && times(">holds 7</text>") == 3, "what the rails hold is said once");
+    expect(shows(">S0-S1</text>") && shows(">S1-S0</text>") && shows(">S1-S2</text>") && shows(">S2-S1</text>"), "both tracks are named");
+    expect(shows(": S0, S0-S1 and S1-S0 on the same rails, S1,") && shows(">both ways on the same rails</text>"), "that they share the rails is said");
+    study.level.couples = 0;
+    expect(changed() == 0 && draws_well(1) && !shows("rails") && times(">holds 1</text>") == 4, "without couples each track has a band");
+    make_branch();
+    study.level.trains = 1;
+    expect(changed() == 0 && draws_well(1) && !shows("rails") && !shows(">S1-S0</text>"), "a track that no train uses is not drawn");
+}
+
+/* The first train runs over a part of the line, from this station to the next; the second, which goes up, over all of it. */
+static void longer_line(unsigned first, const char *what)
+{
+    static struct bands order;
+    make_branch();
+    study.level.train[0].stops = 2;
+    for (unsigned i = 0; i < 2; i++)
+        study.level.train[0].stop[i].station = first + i;
+    order_bands(&study.level, &order);
+    expect(changed() == 0 && order.count == 5 && is_band(&order, 0, 0) && is_band(&order, 2, 1) && is_band(&order, 4, 2), what);
 }
 
 /* ---- drawn cases */
@@ -508,6 +582,9 @@ int main(int count, char **words)
     windows();
     seven_trains();
     bands();
+    couples();
+    longer_line(1, "a train that goes up past the places that are there goes on upwards");
+    longer_line(0, "a train that comes to them from below begins below");
     if (count > 1)
         pairs(words[1]);
     return tally();

@@ -10,7 +10,7 @@
 #include "refusals_said.h"
 #include "tally.h"
 
-enum { SAID_BYTES = 8192, MUTATIONS = 10000, GUESSES = 10000, MOST_EDITS = 6, TRACK_BYTES = 6 };
+enum { SAID_BYTES = 8192, MUTATIONS = 10000, GUESSES = 10000, MOST_EDITS = 6, TRACK_BYTES = 6, COUPLE_BYTES = 5 };
 
 /* ---- files */
 
@@ -145,6 +145,27 @@ static void try_many_tracks(void)
     expect_said("5, tracks", refusal_of(&study), 5, many_tracks_said);
 }
 
+/* 40 tracks, each beside the one that leads back, and 21 couples; the last is none that there could be. */
+static void try_many_couples(void)
+{
+    static struct study study;
+    memset(&study, 0, sizeof study);
+    study.case_name = "shift.case";
+    append_hex(&study.case_bytes, "01 0005 0014 01 0400 [02 0001 01]*24");
+    for (unsigned k = 0; k < MOST_TRACKS; k++) {
+        const uint8_t track[TRACK_BYTES] = {3, 0, 3, (uint8_t)(k / 2 + k % 2), (uint8_t)(k / 2 + 1 - k % 2), 1};
+        memcpy(study.case_bytes.at + study.case_bytes.length, track, sizeof track);
+        study.case_bytes.length += sizeof track;
+    }
+    for (unsigned k = 0; k <= MOST_COUPLES; k++) {
+        const uint8_t couple[COUPLE_BYTES] = {6, 0, 2, (uint8_t)(2 * k % MOST_TRACKS), (uint8_t)(2 * k % MOST_TRACKS + 1)};
+        memcpy(study.case_bytes.at + study.case_bytes.length, couple, sizeof couple);
+        study.case_bytes.length += sizeof couple;
+    }
+    say(&study, refusal_of(&study), NULL);
+    expect_said("5, couples", refusal_of(&study), 5, many_couples_said);
+}
+
 /* ---- texts */
 
 /* The shift example as a text would have it: names, and lines 8 to 20. */
@@ -257,6 +278,29 @@ static void spoil_same_ends(struct study *study)
     study->level.tracks = 2;
 }
 
+static void spoil_couple(struct study *study)
+{
+    study->level.couple[0] = (struct couple){{0, 0}, 31};
+    study->level.couples = 1;
+}
+
+/* The track back, which holds two trains, is coupled with the track there. */
+static void spoil_capacity(struct study *study)
+{
+    study->level.track[1] = (struct track){"Way back", 1, 0, 2, 30};
+    study->level.tracks = 2;
+    study->level.couple[0] = (struct couple){{0, 1}, 31};
+    study->level.couples = 1;
+}
+
+static void spoil_coupled_ends(struct study *study)
+{
+    spoil_capacity(study);
+    study->level.station[2] = (struct station){"Shaft", 1, 29};
+    study->level.stations = 3;
+    study->level.track[1] = (struct track){"Way back", 2, 0, 1, 30};
+}
+
 static void spoil_book(struct study *study)
 {
     study->book = study->level.tables;
@@ -270,7 +314,8 @@ static void spoil_book(struct study *study)
 /* In the order of `texts_said`. */
 static void (*const spoils[])(struct study *study) = {spoil_window, spoil_safety, spoil_room, spoil_station, spoil_stops,     spoil_all_stops, spoil_pairs,
                                                       spoil_trains, spoil_ends,   spoil_path,    spoil_tracks,    spoil_last,      spoil_times,
-                                                      spoil_weights, spoil_type,  spoil_same_ends, spoil_book};
+                                                      spoil_weights, spoil_type,  spoil_same_ends, spoil_book,
+                                                      spoil_couple, spoil_capacity, spoil_coupled_ends};
 
 static void try_texts(void)
 {
@@ -428,7 +473,8 @@ static void try_mutations(void)
     for (unsigned i = 0; i < MUTATIONS; i++) {
         memset(&study, 0, sizeof study);
         study.case_name = "shift.case";
-        edit_shift(&study.case_bytes, 0, 0, "");
+        edit_shift(&study.case_bytes, 22, 0, i % 3 == 0 ? "03 0003 01 00 01" : "");
+        append_hex(&study.case_bytes, i % 3 == 0 ? "06 0002 01 00" : "");
         if (i % 4 == 0) {
             study.book_name = "types.book";
             append_hex(&study.book_bytes, "05 0005 02 00 0a 05 5a 05 0003 07 09 64");
@@ -478,8 +524,8 @@ static void try_pairs(const char *name)
 
 static void try_meanings(void)
 {
-    static const unsigned without[] = {0, 13, 18};
-    for (unsigned number = 1; number <= LAMPREYSONG_STOP_TOO_LATE; number++) {
+    static const unsigned without[] = {0, 13, 19};
+    for (unsigned number = 1; number <= LAMPREYSONG_WRONG_COUPLE; number++) {
         if (number == 13)
             continue;
         expect(is_refusal(number) && refusal_meaning(number)[0] != '\0', "a number has a meaning");
@@ -487,7 +533,7 @@ static void try_meanings(void)
             expect(strcmp(refusal_meaning(number), refusal_meaning(other)) != 0, "two numbers have two meanings");
     }
     for (size_t i = 0; i < sizeof without / sizeof *without; i++)
-        expect(!is_refusal(without[i]) && strcmp(refusal_meaning(without[i]), "a number that has no meaning") == 0, "0, 13 and 18 have no meaning");
+        expect(!is_refusal(without[i]) && strcmp(refusal_meaning(without[i]), "a number that has no meaning") == 0, "0, 13 and 19 have no meaning");
 }
 
 static void try_shares(void)
@@ -558,6 +604,7 @@ int main(int count, char **words)
 {
     try_damages();
     try_many_tracks();
+    try_many_couples();
     try_texts();
     try_bytes_beside_text();
     try_room();

@@ -49,12 +49,12 @@ static const struct damage damages[] = {
     {"2, a first tag of 0", 0, 1, "00", NULL, 2,
      "  where  shift.case\n"
      "  bytes  field 1, at byte 0: 00 00 05 00 14 01 04 00\n"
-     "  wrong  The tag is 0; tags are 1 head, 2 station, 3 track, 4 train and 5 delay table.\n"
+     "  wrong  The tag is 0; tags are 1 head, 2 station, 3 track, 4 train, 5 delay table and 6 couple.\n"
      "  mend   Is this a case? The bytes of a case begin with 01 00 05.\n"},
     {"2, a tag of 9", 22, 1, "09", NULL, 2,
      "  where  shift.case\n"
      "  bytes  field 5, at byte 22: 09 00 0c 01 01 00 00 02 00 03 01 00 06 00 07\n"
-     "  wrong  The tag is 9; tags are 1 head, 2 station, 3 track, 4 train and 5 delay table.\n"
+     "  wrong  The tag is 9; tags are 1 head, 2 station, 3 track, 4 train, 5 delay table and 6 couple.\n"
      "  mend   A length before this place may be wrong. `lampreysong show --fields` prints the file field by field.\n"},
     {"2, UTF-16 with a mark", 0, 60, "fffe 7400 6900", NULL, 2,
      "  where  shift.case\n"
@@ -74,27 +74,27 @@ static const struct damage damages[] = {
     {"2, hex with a control character", 0, 60, "30312030303035203030313420303120303430300c", NULL, 2,
      "  where  shift.case\n"
      "  bytes  field 1, at byte 0: 30 31 20 30 30 30 35 20 30 30 31 34 20 30 31 20 ..\n"
-     "  wrong  The tag is 48; tags are 1 head, 2 station, 3 track, 4 train and 5 delay table.\n"
+     "  wrong  The tag is 48; tags are 1 head, 2 station, 3 track, 4 train, 5 delay table and 6 couple.\n"
      "         This looks like hex written as text.\n"
      "         Byte 20 is the control character 0c, so the file was not read as text.\n"
      "  mend   Make bytes of it first (examples/to-bytes does so), or write the case as text.\n"},
     {"2, text with a control character", 0, 60, "77696e646f772031320a736166657479203104", NULL, 2,
      "  where  shift.case\n"
      "  bytes  field 1, at byte 0: 77 69 6e 64 6f 77 20 31 32 0a 73 61 66 65 74 79 ..\n"
-     "  wrong  The tag is 119; tags are 1 head, 2 station, 3 track, 4 train and 5 delay table.\n"
+     "  wrong  The tag is 119; tags are 1 head, 2 station, 3 track, 4 train, 5 delay table and 6 couple.\n"
      "         This looks like text.\n"
      "         Byte 18 is the control character 04, so the file was not read as text.\n"
      "  mend   Take the control character out.\n"},
     {"2, hex in a few bytes", 0, 60, "30312030303035", NULL, 2,
      "  where  shift.case\n"
      "  bytes  field 1, at byte 0: 30 31 20 30 30 30 35\n"
-     "  wrong  The tag is 48; tags are 1 head, 2 station, 3 track, 4 train and 5 delay table.\n"
+     "  wrong  The tag is 48; tags are 1 head, 2 station, 3 track, 4 train, 5 delay table and 6 couple.\n"
      "         This looks like hex written as text.\n"
      "  mend   Make bytes of it first (examples/to-bytes does so), or write the case as text.\n"},
     {"2, in a book", 0, 0, "", "07 0000", 2,
      "  where  types.book\n"
      "  bytes  field 1, at byte 0: 07 00 00\n"
-     "  wrong  The tag is 7; tags are 1 head, 2 station, 3 track, 4 train and 5 delay table.\n"
+     "  wrong  The tag is 7; tags are 1 head, 2 station, 3 track, 4 train, 5 delay table and 6 couple.\n"
      "  mend   Is this a book? The bytes of a book begin with 05 00.\n"},
     {"3, no head first", 0, 8, "", NULL, 3,
      "  where  shift.case: station 0, counted from 0\n"
@@ -115,7 +115,7 @@ static const struct damage damages[] = {
      "  where  shift.case: station 2, counted from 0\n"
      "  bytes  field 5, at byte 22: 02 00 01 01\n"
      "  wrong  A station (tag 2) stands after a track (tag 3).\n"
-     "  mend   The order is head, stations, tracks, trains, delay tables: put it before the first track.\n"},
+     "  mend   The order is head, stations, tracks, trains, delay tables, couples: put it before the first track.\n"},
     {"3, what can be no field", 60, 0, "04 ffff", NULL, 3,
      "  where  shift.case: train 2, counted from 0\n"
      "  bytes  field 8, at byte 60: 04 ff ff\n"
@@ -125,7 +125,7 @@ static const struct damage damages[] = {
      "  where  shift.case: train 2, counted from 0\n"
      "  bytes  field 8, at byte 60: 04 00 0c\n"
      "  wrong  A train (tag 4) stands after a delay table (tag 5).\n"
-     "  mend   The order is head, stations, tracks, trains, delay tables: put it before the first delay table.\n"},
+     "  mend   The order is head, stations, tracks, trains, delay tables, couples: put it before the first delay table.\n"},
     {"3, a case in place of a book", 0, 0, "", "01 0005 0014 01 0400", 3,
      "  where  types.book: head\n"
      "  bytes  field 1, at byte 0: 01 00 05 00 14 01 04 00\n"
@@ -369,6 +369,81 @@ static const struct damage damages[] = {
      "         The case has a delay table of type 1.\n"
      "         The book has no delay tables.\n"
      "  mend   Add a delay table of that type, or change the train's type.\n"},
+    {"18, an unknown track", 16, 44, "03 0003 00 01 01 03 0003 01 00 01 06 0002 00 07", NULL, 18,
+     "  where  shift.case: couple 0, counted from 0\n"
+     "  bytes  field 6, at byte 28: 06 00 02 00 07\n"
+     "  wrong  Couple 0 has track 7, but there is no track 7.\n"
+     "  mend   The tracks are 0 to 1.\n"},
+    {"18, an unknown track that comes first", 16, 44, "03 0003 00 01 01 03 0003 01 00 01 06 0002 02 01", NULL, 18,
+     "  where  shift.case: couple 0, counted from 0\n"
+     "  bytes  field 6, at byte 28: 06 00 02 02 01\n"
+     "  wrong  Couple 0 has track 2, but there is no track 2.\n"
+     "  mend   The tracks are 0 to 1.\n"},
+    {"18, a track alone", 60, 0, "06 0002 00 01", NULL, 18,
+     "  where  shift.case: couple 0, counted from 0\n"
+     "  bytes  field 8, at byte 60: 06 00 02 00 01\n"
+     "  wrong  Couple 0 has track 1, but there is no track 1.\n"
+     "  mend   The only track is 0: add the track back, or take the couple out.\n"},
+    {"18, no tracks", 16, 44, "06 0002 00 01", NULL, 18,
+     "  where  shift.case: couple 0, counted from 0\n"
+     "  bytes  field 4, at byte 16: 06 00 02 00 01\n"
+     "  wrong  Couple 0 has track 0, but there is no track 0.\n"
+     "  mend   The case has no tracks: add them, or take the couple out.\n"},
+    {"18, a track with itself", 60, 0, "06 0002 00 00", NULL, 18,
+     "  where  shift.case: couple 0, counted from 0\n"
+     "  bytes  field 8, at byte 60: 06 00 02 00 00\n"
+     "  wrong  Track 0 is coupled with itself.\n"
+     "  mend   Couple it with the track that leads back.\n"},
+    {"18, ends that don't mirror", 16, 44, "02 0001 01 03 0003 00 01 01 03 0003 01 02 01 06 0002 00 01", NULL, 18,
+     "  where  shift.case: couple 0, counted from 0\n"
+     "  bytes  field 7, at byte 32: 06 00 02 00 01\n"
+     "  wrong  Coupled tracks lead there and back between two stations, but these don't.\n"
+     "         Track 0 leads from station 0 to station 1.\n"
+     "         Track 1 leads from station 1 to station 2.\n"
+     "  mend   No track leads from station 1 to station 0: add it, or take the couple out.\n"},
+    {"18, the track beside the one that is meant", 16, 44, "02 0001 01 03 0003 00 01 01 03 0003 01 02 01 03 0003 01 00 01 06 0002 00 01", NULL, 18,
+     "  where  shift.case: couple 0, counted from 0\n"
+     "  bytes  field 8, at byte 38: 06 00 02 00 01\n"
+     "  wrong  Coupled tracks lead there and back between two stations, but these don't.\n"
+     "         Track 0 leads from station 0 to station 1.\n"
+     "         Track 1 leads from station 1 to station 2.\n"
+     "  mend   The way back of track 0 is track 2: couple these two.\n"},
+    {"18, unequal capacities", 16, 44, "03 0003 00 01 01 03 0003 01 00 02 06 0002 01 00", NULL, 18,
+     "  where  shift.case: couple 0, counted from 0\n"
+     "  bytes  field 6, at byte 28: 06 00 02 01 00\n"
+     "  wrong  Track 1 holds 2, but track 0 holds 1.\n"
+     "  mend   They are the same rails: let both hold the same number of trains.\n"},
+    {"18, a couple twice", 16, 44, "03 0003 00 01 01 03 0003 01 00 01 06 0002 01 00 06 0002 00 01", NULL, 18,
+     "  where  shift.case: couple 1, counted from 0\n"
+     "  bytes  field 7, at byte 33: 06 00 02 00 01\n"
+     "  wrong  Track 0 is coupled already, with track 1.\n"
+     "         That is couple 0.\n"
+     "  mend   A track is in one couple at most: take one of the two out.\n"},
+    {"1, a couple that is cut off", 60, 0, "06 0002 00", NULL, 1,
+     "  where  shift.case: couple 0, counted from 0\n"
+     "  bytes  field 8, at byte 60: 06 00 02 00\n"
+     "  wrong  Its length announces 2 bytes, but the file has only 1 more.\n"
+     "  mend   The file was cut off, or a length in it is wrong. Compile its text again, or copy it again.\n"},
+    {"2, a tag of 7", 60, 0, "07 0002 00 00", NULL, 2,
+     "  where  shift.case\n"
+     "  bytes  field 8, at byte 60: 07 00 02 00 00\n"
+     "  wrong  The tag is 7; tags are 1 head, 2 station, 3 track, 4 train, 5 delay table and 6 couple.\n"
+     "  mend   A length before this place may be wrong. `lampreysong show --fields` prints the file field by field.\n"},
+    {"3, a table after a couple", 16, 44, "03 0003 00 01 01 03 0003 01 00 01 06 0002 00 01 05 0003 01 00 64", NULL, 3,
+     "  where  shift.case: delay table 0, counted from 0\n"
+     "  bytes  field 7, at byte 33: 05 00 03 01 00 64\n"
+     "  wrong  A delay table (tag 5) stands after a couple (tag 6).\n"
+     "  mend   The order is head, stations, tracks, trains, delay tables, couples: put it before the first couple.\n"},
+    {"3, a couple in a book", 0, 0, "", "06 0002 00 01", 3,
+     "  where  types.book: couple 0, counted from 0\n"
+     "  bytes  field 1, at byte 0: 06 00 02 00 01\n"
+     "  wrong  A couple (tag 6) stands here, but a book has delay tables (tag 5) only.\n"
+     "  mend   Take it out of the book.\n"},
+    {"4, a couple", 60, 0, "06 0003 00 01 00", NULL, 4,
+     "  where  shift.case: couple 0, counted from 0\n"
+     "  bytes  field 8, at byte 60: 06 00 03 00 01 00\n"
+     "  wrong  Its length is 3 bytes; the length of a couple is 2 bytes.\n"
+     "  mend   Perhaps a byte was lost or added, here or before: `lampreysong show --fields` prints the file field by field.\n"},
 };
 
 static const struct words_said texts_said[] = {
@@ -460,6 +535,23 @@ static const struct words_said texts_said[] = {
      "  bytes  field 1 of the compiled book, at byte 0: 05 00 05 01 00 00 03 28\n"
      "  wrong  Delay +0 of delay table Men has weight 0; a weight is at least 1.\n"
      "  mend   Leave that delay out, or give it a weight.\n"},
+    {"18, a track with itself", 18,
+     "  where  early.txt, line 31: couple Incline Incline (couple 0, counted from 0)\n"
+     "  bytes  field 8 of the compiled case, at byte 60: 06 00 02 00 00\n"
+     "  wrong  Track Incline is coupled with itself.\n"
+     "  mend   Couple it with the track that leads back.\n"},
+    {"18, unequal capacities", 18,
+     "  where  early.txt, line 31: couple Incline \"Way back\" (couple 0, counted from 0)\n"
+     "  bytes  field 9 of the compiled case, at byte 66: 06 00 02 00 01\n"
+     "  wrong  Track Incline holds 1, but track \"Way back\" holds 2.\n"
+     "  mend   They are the same rails: let both hold the same number of trains.\n"},
+    {"18, ends that don't mirror", 18,
+     "  where  early.txt, line 31: couple Incline \"Way back\" (couple 0, counted from 0)\n"
+     "  bytes  field 10 of the compiled case, at byte 70: 06 00 02 00 01\n"
+     "  wrong  Coupled tracks lead there and back between two stations, but these don't.\n"
+     "         Track Incline leads from station Face to station \"Lower Tip\".\n"
+     "         Track \"Way back\" leads from station Shaft to station Face.\n"
+     "  mend   No track leads from station \"Lower Tip\" to station Face: add it, or take the couple out.\n"},
 };
 
 static const struct words_said calls_said[] = {
@@ -488,6 +580,12 @@ static const char *const many_tracks_said =
     "  bytes  field 66, at byte 344: 03 00 03 10 12 01\n"
     "  wrong  A case has at most 40 tracks, and this is one more.\n"
     "  mend   Take out a track that can be spared.\n";
+
+static const char *const many_couples_said =
+    "  where  shift.case: couple 20, counted from 0\n"
+    "  bytes  field 86, at byte 444: 06 00 02 00 01\n"
+    "  wrong  A case has at most 20 couples, and this is one more.\n"
+    "  mend   Take it out: after 20 couples every track that a case can have is in one.\n";
 
 static const char *const station_in_book_said =
     "  where  types.book: station 0, counted from 0\n"

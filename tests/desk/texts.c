@@ -55,7 +55,7 @@ static int same_text(const struct text *a, const struct text *b)
     return a->length == b->length && memcmp(a->at, b->at, a->length) == 0;
 }
 
-static struct text shown, shown_twice, damaged, example;
+static struct text shown, shown_twice, damaged, example, branch;
 static struct level again, seen;
 static struct bytes bytes, bytes_again;
 static struct text_error error;
@@ -110,6 +110,9 @@ static int has_lines(const struct text *text)
         holds &= has_on_line(text, again.station[i].line, "station") && has_on_line(text, again.station[i].line, again.station[i].name);
     for (unsigned i = 0; i < again.tracks; i++)
         holds &= has_on_line(text, again.track[i].line, "track") && has_on_line(text, again.track[i].line, again.station[again.track[i].from].name);
+    for (unsigned i = 0; i < again.couples; i++)
+        for (unsigned k = 0; k < 2; k++)
+            holds &= has_on_line(text, again.couple[i].line, "couple") && has_on_line(text, again.couple[i].line, again.track[again.couple[i].track[k]].name);
     for (unsigned i = 0; i < again.tables.count; i++)
         holds &= has_on_line(text, again.tables.table[i].line, "delays") && has_on_line(text, again.tables.table[i].line, again.tables.table[i].name);
     for (unsigned i = 0; i < again.trains; i++) {
@@ -211,10 +214,54 @@ static void drawn_level(unsigned nth)
     drawn_books(&book, nth);
 }
 
+/* Stations in a line, a track there and one back between the first of them, and their couples. */
+static void fill_places(struct level *level)
+{
+    for (level->stations = 0; level->stations < MOST_STATIONS; level->stations++)
+        level->station[level->stations].capacity = 255;
+    for (unsigned i = 0; i < MOST_COUPLES; i++) {
+        level->track[2 * i] = (struct track){"", i, i + 1, 9, 0};
+        level->track[2 * i + 1] = (struct track){"", i + 1, i, 9, 0};
+        level->couple[i] = (struct couple){{2 * i, 2 * i + 1}, 0};
+    }
+    level->tracks = MOST_TRACKS;
+    level->couples = MOST_COUPLES;
+}
+
+static void fill_trains(struct level *level)
+{
+    for (level->trains = 0; level->trains < MOST_TRAINS; level->trains++)
+        for (struct train *train = &level->train[level->trains]; train->stops < MOST_STOPS; train->stops++)
+            train->stop[train->stops] = (struct stop){train->stops, 2 * train->stops, 2 * train->stops + 1, 0};
+    for (level->tables.count = 0; level->tables.count < MOST_TABLES; level->tables.count++) {
+        struct table *table = &level->tables.table[level->tables.count];
+        table->type = level->tables.count;
+        for (table->pairs = 0; table->pairs < MOST_PAIRS; table->pairs++)
+            table->pair[table->pairs] = (struct pair){table->pairs, table->pairs == 0 ? 30 : 10};
+    }
+}
+
+/* All that a case can hold: 919 bytes, which are accepted, and as many statements as there can be. */
+static void fullest_level(void)
+{
+    static struct study study;
+    struct level *level = &study.level;
+    level->head = (struct head){.last = MOST_MINUTE, .safety = MOST_SAFETY, .room = MOST_ROOM};
+    for (unsigned i = 0; i < TITLE_BYTES - 1; i++)
+        level->title[i] = i % 2 == 0 ? 'x' : ' ';
+    fill_places(level);
+    fill_trains(level);
+    give_names(level);
+    put_case(level, &study.case_bytes);
+    show_case(level, &no_book, &shown);
+    expect(study.case_bytes.length == 919 && ask_files(&study).refusal == 0, "the fullest case has 919 bytes and is accepted");
+    expect(leads_to(&shown, &no_book, level) && shown_again(&shown, &shown, &no_book, &error), "the fullest case is shown and compiled again");
+}
+
 static void damaged_examples(void)
 {
     for (unsigned nth = 0; nth < DAMAGED; nth++) {
-        damaged = example;
+        damaged = nth % 3 == 0 ? branch : example;
         damaged_text(&no_book, nth);
     }
     expect_nth(compiled_though_damaged > DAMAGED / 50, "some damaged texts are compiled", compiled_though_damaged);
@@ -222,12 +269,12 @@ static void damaged_examples(void)
 
 /* ---- spoiled texts */
 
-/* Every word of the example in turn is left out, doubled, or another: the check by showing again must see it. */
-static void spoiled_words(void)
+/* Every word of a text in turn is left out, doubled, or another: the check by showing again must see it. */
+static void spoiled_words(const struct text *text)
 {
     static struct level level;
     unsigned nth = 0;
-    compile_case(&example, &no_book, &level, &error);
+    compile_case(text, &no_book, &level, &error);
     show_case(&level, &no_book, &shown);
     for (size_t from = 0, past; from < shown.length; from = past) {
         while (from < shown.length && is_space(shown.at[from]))
@@ -324,7 +371,13 @@ static void spoiled_left_out(void)
                  {"track A-C from A to B", "track from A to B", 0},
                  {"track from A to B", "track A-B from A to B", 0},
                  {"title a \"b c\" # d", "title a \"b c\"", 1},
-                 {"title a \"b c\"", "title a b c", 0}};
+                 {"title a \"b c\"", "title a b c", 0},
+                 {"couple \"A-B\" B-A # both ways", "couple A-B B-A", 1},
+                 {"couple A-B B-A", "couple B-A A-B", 0},
+                 {"couple A-B B-A", "couple A-B A-B", 0},
+                 {"couple A-B B-A", "couple A-B B-A\ncouple C-D D-C", 0},
+                 {"couple A-B B-A\ncouple C-D D-C", "couple A-B B-A", 0},
+                 {"couple A-B B-A\ncouple C-D D-C", "couple C-D D-C\ncouple A-B B-A", 0}};
     for (unsigned i = 0; i < sizeof tried / sizeof *tried; i++) {
         set_text(&damaged, tried[i].text);
         set_text(&shown, tried[i].shown);
@@ -391,6 +444,10 @@ static void examples(void)
     put_case(&level, &bytes);
     expect(read_example("examples/shift.case", &text) && text.length == bytes.length && memcmp(text.at, bytes.at, bytes.length) == 0,
            "its bytes are those of its case");
+    expect(read_example("examples/branch.txt", &branch) && compile_case(&branch, &no_book, &level, &error), "the branch is compiled");
+    put_case(&level, &bytes);
+    expect(read_example("examples/branch.case", &text) && text.length == bytes.length && memcmp(text.at, bytes.at, bytes.length) == 0,
+           "its bytes are those of its case");
     expect(read_example("examples/level.txt", &example), "the level is there");
 }
 
@@ -426,8 +483,10 @@ int main(int count, char **words)
     wrong_texts();
     for (unsigned nth = 0; nth < LEVELS; nth++)
         drawn_level(nth);
+    fullest_level();
     damaged_examples();
-    spoiled_words();
+    spoiled_words(&branch);
+    spoiled_words(&example);
     spoiled_statements();
     spoiled_left_out();
     shown_by_type();

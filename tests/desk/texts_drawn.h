@@ -34,7 +34,7 @@ static const char *one_of(const char *const *words, unsigned count)
 #define ONE_OF(words) one_of(words, sizeof(words) / sizeof *(words))
 
 static const char *const starts[] = {"Face", "Tip", "Shaft", "Ore-", "Men", "S", "a",  "Förder", "Шахта", "矿",
-                                     "Lower Tip ", "#", "2-3", "+3", "60%", "", " ", "train", "holds", "é"};
+                                     "Lower Tip ", "#", "2-3", "+3", "60%", "", " ", "train", "holds", "couple", "é"};
 static const char *const ends[] = {"", "1", "-2", " east", "x", "ü", "станция", "#4", "train", "_very_long_name_that_fills_it_all_up"};
 
 /* A name of any kind, at most as long as a name may be, and cut only between characters. */
@@ -118,6 +118,28 @@ static void draw_track(struct level *level)
     level->tracks++;
 }
 
+/* The first track that is called as a track is: two of the same ends may share a name, and a text then means the first. */
+static unsigned first_called_so(const struct level *level, unsigned track)
+{
+    unsigned first = 0;
+    while (strcmp(level->track[first].name, level->track[track].name) != 0)
+        first++;
+    return first;
+}
+
+/* Any two tracks, or one twice, that are not coupled with each other yet. */
+static void draw_couple(struct level *level)
+{
+    struct couple *couple = &level->couple[level->couples];
+    couple->track[0] = first_called_so(level, draw(level->tracks));
+    couple->track[1] = first_called_so(level, draw(level->tracks));
+    for (const struct couple *other = level->couple; other < couple; other++)
+        for (unsigned k = 0; k < 2; k++)
+            if (other->track[k] == couple->track[0] && other->track[1 - k] == couple->track[1])
+                return;
+    level->couples++;
+}
+
 static void draw_train(struct level *level)
 {
     struct train *train = &level->train[level->trains];
@@ -147,6 +169,8 @@ static void draw_level(struct level *level, const struct tables *book)
     }
     while (level->stations > 0 && level->tracks < tracks)
         draw_track(level);
+    for (unsigned times = in_ten(2) ? 60 : draw(6); level->tracks > 0 && level->couples < MOST_COUPLES && times > 0; times--)
+        draw_couple(level);
     while (level->trains < trains)
         draw_train(level);
     draw_tables(&level->tables, book);
@@ -185,7 +209,8 @@ static void add_line_end(struct text *text)
 /* Whether a name is one without quotes; said here without the compiler's code. */
 static int is_plain(const char *name)
 {
-    static const char *const kept[] = {"title", "window", "safety", "room", "station", "track", "delays", "train", "holds", "from", "to", "type", "priority"};
+    static const char *const kept[] = {"title", "window", "safety", "room", "station", "track", "couple", "delays", "train", "holds",
+                                       "from", "to", "type", "priority"};
     int letter = 0;
     for (size_t i = 0; i < sizeof kept / sizeof *kept; i++)
         if (strcmp(kept[i], name) == 0)
@@ -253,6 +278,12 @@ static void write_track(struct text *text, const struct level *level, unsigned n
     }
 }
 
+static void write_couple(struct text *text, const struct level *level, unsigned nth)
+{
+    add_part(text, "couple", level->track[level->couple[nth].track[0]].name, 0);
+    add_part(text, "", level->track[level->couple[nth].track[1]].name, 0);
+}
+
 static void write_table(struct text *text, const struct tables *tables, unsigned nth)
 {
     const struct table *table = &tables->table[nth];
@@ -311,6 +342,9 @@ static void write_nth(struct text *text, const struct level *level, const struct
     case 3:
         write_table(text, &level->tables, nth);
         break;
+    case 4:
+        write_couple(text, level, nth);
+        break;
     default:
         write_train(text, level, book, nth);
     }
@@ -319,15 +353,18 @@ static void write_nth(struct text *text, const struct level *level, const struct
 
 static void write_freely(const struct level *level, const struct tables *book, struct text *text)
 {
-    const unsigned counts[] = {4, level->stations, level->tracks, level->tables.count, level->trains};
-    unsigned written[5] = {0}, left = 4 + level->stations + level->tracks + level->tables.count + level->trains;
+    enum { KINDS = 6 };
+    const unsigned counts[KINDS] = {4, level->stations, level->tracks, level->tables.count, level->couples, level->trains};
+    unsigned written[KINDS] = {0}, left = 0;
     text->length = 0;
     if (in_ten(3))
         add(text, "\xEF\xBB\xBF");
+    for (unsigned kind = 0; kind < KINDS; kind++)
+        left += counts[kind];
     for (; left > 0; left--) {
-        unsigned kind = draw(5);
+        unsigned kind = draw(KINDS);
         while (written[kind] == counts[kind])
-            kind = (kind + 1) % 5;
+            kind = (kind + 1) % KINDS;
         write_nth(text, level, book, kind, written[kind]++);
     }
 }
@@ -395,7 +432,7 @@ static void damage_word(struct text *text)
 {
     static const char *const words[] = {"train", "holds", "2-3", "3-2-1", "+3", "40%", "256", "65536", "01", "\"", "\"Lower Tip\"", "Face", "Tip", "type",
                                         "99999999999999", "from", "Tpi", "#", "", "delay", "-", "%", "+", "0", "7", "\"\"", "\xC3", "title", "delays",
-                                        "\xC2\xA0"};
+                                        "couple", "\xC2\xA0"};
     char copied[80];
     size_t past, from = draw_word(text, &past), length;
     const char *word = ONE_OF(words);

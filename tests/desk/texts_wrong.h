@@ -30,8 +30,10 @@ static const struct wrong_text {
      1, 107, "a title has at most 100 bytes, and this word goes past them", A_CASE},
     {"windw 9\n", 1, 1, "no statement begins with `windw`; is it `window`?", A_CASE},
     {"Window 9\n", 1, 1, "no statement begins with `Window`; is it `window`?", A_CASE},
-    {"platform 9\n", 1, 1, "`title`, `window`, `safety`, `room`, `station`, `track`, `delays` or `train` is expected, and `platform` stands here", A_CASE},
-    {"  holds 1\n", 1, 3, "`title`, `window`, `safety`, `room`, `station`, `track`, `delays` or `train` is expected, and `holds` stands here", A_CASE},
+    {"platform 9\n",
+     1, 1, "`title`, `window`, `safety`, `room`, `station`, `track`, `couple`, `delays` or `train` is expected, and `platform` stands here", A_CASE},
+    {"  holds 1\n",
+     1, 3, "`title`, `window`, `safety`, `room`, `station`, `track`, `couple`, `delays` or `train` is expected, and `holds` stands here", A_CASE},
     {"Face 2-3\n", 1, 1, "`Face` looks like a stop, but no train stands before it; stops come right after the line of their train", A_CASE},
     {"station Face holds two\n", 1, 20, "a whole number of 1 to 255 is expected after `holds`, and `two` stands here", A_CASE},
     {"station Face hold 2\n", 1, 14, "`holds` with a number is expected, and `hold` stands here; a name with spaces stands in double quotes", A_CASE},
@@ -89,6 +91,44 @@ static const struct wrong_text {
     {"window 9\nsafety 0\nstation A holds 1\nstation B-C holds 1\nstation A-B holds 1\nstation C holds 1\n"
      "track from A to B-C holds 1\ntrack from A-B to C holds 1\n",
      8, 1, "this track would be called `A-B-C` by its ends, as that of line 7 is; give it a name of its own", A_CASE},
+    {"couple\n",
+     1, 7, "the name of a track is expected after `couple`, and the line ends here", A_CASE},
+    {"couple A\n",
+     1, 9, "the name of a track is expected after `A`, and the line ends here", A_CASE},
+    {"couple A 12\n",
+     1, 10, "the name of a track is expected after `A`, and `12` stands here; a name has a letter, or double quotes around it", A_CASE},
+    {"couple A to B\n",
+     1, 10, "the name of a track is expected after `A`, and `to` stands here; a keyword is a name only in double quotes", A_CASE},
+    {"couple Lower Tip-Face Face-Lower\n",
+     1, 23, "the end of the line is expected, and `Face-Lower` stands here; a name with spaces stands in double quotes", A_CASE},
+    {"couple A B 2\n",
+     1, 12, "the end of the line is expected, and `2` stands here", A_CASE},
+    {"coupel A B\n",
+     1, 1, "no statement begins with `coupel`; is it `couple`?", A_CASE},
+    {"window 9\nsafety 0\nstation Face holds 1\nstation Tip holds 1\ntrack from Face to Tip holds 1\n"
+     "track from Tip to Face holds 1\ncouple Face-Tip Tip-Fcae\n",
+     7, 17, "no track is called `Tip-Fcae`; is it `Tip-Face`?", A_CASE},
+    {"couple Face-Tpi Tip-Face\nwindow 9\nsafety 0\nstation Face holds 1\nstation Tip holds 1\ntrack from Face to Tip holds 1\n"
+     "track from Tip to Face holds 1\n",
+     1, 8, "no track is called `Face-Tpi`; is it `Face-Tip`?", A_CASE},
+    {"window 9\nsafety 0\nstation Face holds 1\nstation Tip holds 1\ntrack from Face to Tip holds 1\n"
+     "track Incline from Tip to Face holds 1\ncouple Face-Tip Tip-Face\n",
+     7, 17, "no track is called `Tip-Face`", A_CASE},
+    {"window 9\nsafety 0\nstation Face holds 1\nstation Tip holds 1\ntrack from Face to Tip holds 1\n"
+     "couple Face-Tip Shaft\ntrack from Tip to Shaft holds 1\n",
+     7, 19, "no station is called `Shaft`", A_CASE},
+    {"window 9\nsafety 0\nstation Face holds 1\nstation Tip holds 1\ntrack from Face to Tip holds 1\n"
+     "track from Tip to Face holds 1\ncouple Face-Tip Tip-Face\ncouple Face-Tip Tip-Face\n",
+     8, 8, "`Face-Tip` and `Tip-Face` are coupled in line 7 already; write each couple once", A_CASE},
+    {"window 9\nsafety 0\nstation Face holds 1\nstation Tip holds 1\ntrack from Face to Tip holds 1\n"
+     "track from Tip to Face holds 1\ncouple Face-Tip Tip-Face\ncouple  \"Tip-Face\" Face-Tip\n",
+     8, 9, "`\"Tip-Face\"` and `Face-Tip` are coupled in line 7 already; write each couple once", A_CASE},
+    {"couple A B\ncouple A B\ncouple A B\ncouple A B\ncouple A B\ncouple A B\ncouple A B\n"
+     "couple A B\ncouple A B\ncouple A B\ncouple A B\ncouple A B\ncouple A B\ncouple A B\n"
+     "couple A B\ncouple A B\ncouple A B\ncouple A B\ncouple A B\ncouple A B\ncouple A B\n",
+     21, 1, "a case has at most 20 couples, and this is one more", A_CASE},
+    {"couple A B\n",
+     1, 1, "a book has `delays` only, and `couple` stands here", A_BOOK},
     {"delays Ore 0 60%\n", 1, 12, "a delay (+0 to +255 minutes, such as `+3`) is expected, and `0` stands here", A_CASE},
     {"delays Ore +0 60\n", 1, 15, "a weight (1% to 100%, such as `40%`) is expected after `+0`, and `60` stands here", A_CASE},
     {"delays Ore +0 60 %\n", 1, 15, "a weight (1% to 100%, such as `40%`) is expected after `+0`, and `60` stands here", A_CASE},
