@@ -10,10 +10,10 @@ use std::process::ExitCode;
 
 /// The definitions that computing has to see through, by the module that declares them.
 const OPENED: [(&str, &str); 7] = [
-    ("Files", "headOf, trackOf, stopOf, trainOf, pairOf, tableOf, kindOf, known, inPlace, lengths, most, howMany, headRules, stationRules, unknown, leads, trackRules, pathBroken, timesBroken, trainRules, tableRules, bodyRules, fieldRules, more, endRules, readField, readFields, read, tablesOf, caseOf, files"),
-    ("Turns", "same, way, ahead, lastStation, elements, capacity, ended, asks, sooner, dueAgain, leaving, entered, arriving, goesFirst, next, turns, visit, minute, minutes, runFrom"),
-    ("Single", "waits, firstMarks, trainsOn, enters, serveTrain, singleRules, single as singleState, arrival"),
-    ("Joint", "common, without, inside, apart, outsides, choicesIn, whole, weightOf, weight, total, firstList, carry, meets, pieces, serveEntry, checkList, jointRules, joint, weightAt"),
+    ("Files", "headOf, trackOf, stopOf, trainOf, pairOf, tableOf, coupleOf, kindOf, known, inPlace, lengths, most, howMany, headRules, stationRules, unknown, leads, trackRules, pathBroken, timesBroken, trainRules, tableRules, trackAt, coupled, unlike, coupleRules, bodyRules, fieldRules, more, endRules, readField, readFields, read, tablesOf, caseOf, files"),
+    ("Turns", "same, way, ahead, lastStation, elements, capacity, names, paired, ended, asks, sooner, dueAgain, leaving, entered, arriving, goesFirst, next, turns, visit, minute, minutes, runFrom"),
+    ("Single", "waits, firstMarks, trainsOn, partnerHeld, enters, serveTrain, singleRules, single as singleState, arrival"),
+    ("Joint", "common, without, inside, apart, outsides, choicesIn, whole, weightOf, weight, total, firstList, carry, meets, meetsAcross, across, pieces, serveEntry, checkList, jointRules, joint, weightAt"),
     ("Listing", "decimal, notArrived, trainLines, listing as listingOf"),
     ("Figures", "plan, onTime, late, double, punctuality, shares, latenessSum, latenessWeight, figures"),
     ("Calls", "choiceBroken, noSuchTrain, singleRun, stoppedRun, wholeRun, trainRun, setImage, coverImage, rowImage, textOf"),

@@ -16,7 +16,7 @@ const TWO: [Memory; 2] = [Memory::Rows, Memory::Weights];
 type Refused = (u16, u16, u32);
 
 pub fn every_refusal(tally: &mut Tally) {
-    let of_files = [of_fields(), of_levels(), of_trains()].concat();
+    let of_files = [of_fields(), of_levels(), of_trains(), of_couples()].concat();
     for (what, files, refused) in of_files {
         let holds = all_refuse(&files, refused);
         tally.expect(holds, || format!("failed: refusal {what}"));
@@ -43,8 +43,8 @@ fn of_fields() -> Vec<Faulty> {
         ("1, a body", shift(|case| case.truncate(59)), (1, 0, 52)),
         ("1, the book", with_book(&[5, 0]), (1, 1, 0)),
         (
-            "2, above 5",
-            shift(|case| case.extend([6, 0, 0])),
+            "2, above 6",
+            shift(|case| case.extend([7, 0, 0])),
             (2, 0, 60),
         ),
         ("2, tag 0", shift(|case| case[0] = 0), (2, 0, 0)),
@@ -117,6 +117,54 @@ fn of_trains() -> Vec<Faulty> {
         ("11, train 0", shift(|case| case.truncate(52)), (11, 0, 22)),
         ("11, train 1", shift(|case| case[41] = 2), (11, 0, 37)),
     ]
+}
+
+/// Faults of couples. The example gets a track back, of the capacity 1, and ends at 66.
+fn of_couples() -> Vec<Faulty> {
+    let with = |capacity, more: &[u8]| {
+        shift(|case| {
+            case.splice(22..22, [3, 0, 3, 1, 0, capacity]);
+            case.extend(more);
+        })
+    };
+    let (couple, again) = ([6, 0, 2, 0, 1], [6, 0, 2, 1, 0]);
+    let twice = [couple, again].concat();
+    let table = [&couple[..], &[5, 0, 3, 2, 0, 100]].concat();
+    vec![
+        ("3, a couple in the book", with_book(&couple), (3, 1, 0)),
+        ("3, a table after a couple", with(1, &table), (3, 0, 71)),
+        ("4, a couple", with(1, &[6, 0, 3, 0, 1, 0]), (4, 0, 66)),
+        ("1, a couple", with(1, &[6, 0, 2, 0]), (1, 0, 66)),
+        (
+            "5, a 21st couple",
+            shift(|case| couples(case, 21)),
+            (5, 0, 414),
+        ),
+        ("18, no such track", with(1, &[6, 0, 2, 0, 2]), (18, 0, 66)),
+        ("18, one end in common", shift(one_end), (18, 0, 70)),
+        ("18, with itself", with(1, &[6, 0, 2, 1, 1]), (18, 0, 66)),
+        ("18, capacities", with(2, &couple), (18, 0, 66)),
+        ("18, already coupled", with(1, &twice), (18, 0, 71)),
+    ]
+}
+
+/// A third station, a track from station 1 to it, and a couple of the two tracks, which have one end in common.
+fn one_end(case: &mut Vec<u8>) {
+    case.splice(22..22, [3, 0, 3, 1, 2, 1]);
+    case.splice(16..16, [2, 0, 1, 1]);
+    case.extend([6, 0, 2, 0, 1]);
+}
+
+/// Seven stations, the first 40 of the tracks there and back between two of them, and so many couples, of which those past the twentieth name tracks
+/// that are coupled.
+fn couples(case: &mut Vec<u8>, count: u8) {
+    let ends = (0..7).flat_map(|from| (from + 1..7).map(move |to| (from, to)));
+    let tracks = ends
+        .take(20)
+        .flat_map(|(from, to)| [3, 0, 3, from, to, 1, 3, 0, 3, to, from, 1]);
+    let tracks: Vec<u8> = tracks.collect();
+    case.splice(16..22, [2, 0, 1, 1].repeat(5).into_iter().chain(tracks));
+    case.extend((0..count).flat_map(|of| [6, 0, 2, of % 20 * 2, of % 20 * 2 + 1]));
 }
 
 /// Twenty-five stations.

@@ -7,16 +7,12 @@
 //! `o TEXT`: a line of the answer.
 //! `# TEXT`: a remark.
 //!
-//! A file of exceptions has the titles, one a line, of vectors that need tag 6, which request 1 brings, and remarks. They have to be answered as 01 says.
+//! A file of exceptions has the titles, one a line, of vectors that are held to be wrong, and remarks, which say why. They have to be answered otherwise.
 
 use crate::said::said;
 use inputs::generator::Files;
 use inputs::questions::Call;
-use second::refusal::{IN_CASE, TAG};
 use std::collections::BTreeSet;
-
-/// The tag that couples two tracks; 01 has no tag above 5.
-const COUPLING_TAG: u8 = 6;
 
 /// A question, and its answer: lines that each end with a line feed.
 struct Vector {
@@ -54,24 +50,11 @@ pub fn found(vectors: &str, exceptions: &str) -> Vec<Option<String>> {
 fn wrong_with(vector: &Vector, excepted: bool) -> Option<String> {
     let Vector { title, answer, .. } = vector;
     let said = said(&vector.files, &vector.call);
-    match (excepted, by_scope(&vector.files.case)) {
-        (false, _) => differs(title, answer, &said),
-        (true, _) if said == *answer => Some(format!("{title}: excepted, and it holds")),
-        (true, None) => Some(format!("{title}: excepted, and its case has no tag 6")),
-        (true, Some(by_scope)) => differs(title, &by_scope, &said),
+    match excepted {
+        false => differs(title, answer, &said),
+        true if said == *answer => Some(format!("{title}: excepted, and it holds")),
+        true => None,
     }
-}
-
-/// What 01 says of a case with tag 6 whose fields before it are sound: refusal 2 at the first field that has it.
-fn by_scope(case: &[u8]) -> Option<String> {
-    let mut place = 0;
-    while let Some([tag, high, low]) = case.get(place..place + 3) {
-        if *tag == COUPLING_TAG {
-            return Some(format!("refused {TAG} {IN_CASE} {place}\n"));
-        }
-        place += 3 + usize::from(u16::from_be_bytes([*high, *low]));
-    }
-    None
 }
 
 /// The first line in which an answer differs from what is expected.
