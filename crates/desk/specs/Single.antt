@@ -25,9 +25,9 @@ use Rattle.file_lookup.specs.declared.Files.the-variants as told
 use Rattle.file_lookup.specs.Answers.{sizesOf, filesOf}
 use Rattle.file_lookup.specs.Laws.{sound-unsound}
 use Rattle.file_arguments.specs.Arguments.{forSingle}
-use Rattle.moving.specs.Words.{Small}
 use Rattle.single.specs.Runs.{Arrives}
-use Rattle.single.specs.Low.{words-small, tables-last}
+use Rattle.single.specs.Plan.{Planned, tables-planned}
+use Rattle.single.specs.Low.{tables-last}
 use Rattle.laying.specs.declared.Answer.{Answer}
 use Rattle.laying.specs.Answers.{answered}
 use Rattle.desk.specs.Answers.{singleAnswer}
@@ -95,11 +95,11 @@ module _ (cs bk x : List ℕ) (k : ℕ) where
 
     module _ {s : Sizes} (ready : Ready s) (tb : List ℕ) (looked : tb ≡ tables (ready .of)) where
       -- what the single run on words asks of its tables
-      pub single-small : Bytes cs → Bytes bk → Small tb × (k < 4294967296) × (getD tb 1 0 < 65535)
+      pub single-small : Bytes cs → Bytes bk → Planned tb × (k < 4294967296) × (getD tb 1 0 < 65535)
       single-small p q =
           let sound : Sound (ready .of) = accepted-sound cs bk (ready .of) (ready .accepted) in
           let bytes : ByteDelays (ready .of) = byte-delays cs bk (ready .of) p q (ready .accepted) in (
-            λ i. subst (λ (l : List ℕ). getD l i 0 < 4294967296) (sym looked) (words-small (ready .of) sound bytes i),
+            subst Planned (sym looked) (tables-planned (ready .of) sound bytes),
             omega (arith, ready .chosen .known, sound .few-trains),
             subst (λ (l : List ℕ). getD l 1 0 < 65535) (sym looked) (tables-last (ready .of) sound bytes),
           )

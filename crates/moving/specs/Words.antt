@@ -2,7 +2,7 @@
 -- after its arrival at 16 + k (0: none), and at 24 + e · 8 + k the minute after the end of its block on element e (0: none). Assumes nothing: these are definitions.
 use mathlib.Core.Bool.{Bool, _&&_, _||_, cond}
 use mathlib.Core.List.{List}
-use Prim.Native.Nat.{ℕ, zero, suc, _+_, _-_, _*_, _<_}
+use Prim.Native.Nat.{ℕ, suc, _+_, _*_, _/_, _%_, _<_}
 use lib.ListN.{getD, set, replicate}
 use lib.Dec.{leb, ltb, eqb}
 use Rattle.rules.specs.Lists.{tick, sum, fold, below}
@@ -78,18 +78,30 @@ elementIn T t e w = fold (λ i u. servedIn T t e (orderIn T i) u) (below (trains
 unfoldable pub minuteIn : List ℕ → ℕ → List ℕ → List ℕ
 minuteIn T t w = fold (elementIn T t) (below 65) w
 
--- the nearest element from e on that some train asks for, 65 for none
+-- ---- turns
+
+-- a turn is a minute, an element and a place in the order of the trains, as one number: 01 serves them in rising order
+abbrev pub turn : ℕ → ℕ → ℕ → ℕ
+turn t e i = t * 1024 + e * 8 + i
+
+abbrev pub turnMinute : ℕ → ℕ
+turnMinute q = q / 1024
+
+abbrev pub turnElement : ℕ → ℕ
+turnElement q = q / 8 % 128
+
+abbrev pub turnRank : ℕ → ℕ
+turnRank q = q % 8
+
+-- the turn q: where there is such an element and such a train, the train is served
+unfoldable pub servedAt : List ℕ → ℕ → List ℕ → List ℕ
+servedAt T q w = cond (ltb (turnElement q) 65 && ltb (turnRank q) (trainsIn T)) (servedIn T (turnMinute q) (turnElement q) (orderIn T (turnRank q)) w) w
+
+-- ---- the next minute in which somebody who is held can be let in
+
+-- the lower of q and the best so far, if q is from e on
 abbrev pub nearer : ℕ → ℕ → ℕ → ℕ
 nearer e q b = cond (leb e q) (cond (ltb q b) q b) b
-
-unfoldable pub nearestIn : List ℕ → ℕ → List ℕ → ℕ → ℕ
-nearestIn T t w e = fold (λ i b. nearer e (wanted T t w (orderIn T i)) b) (below (trainsIn T)) 65
-
--- ---- the next minute in which somebody can be let in
-
--- the later of two minutes
-unfoldable pub later : ℕ → ℕ → ℕ
-later a b = cond (ltb a b) b a
 
 -- the first minute after t in which a block on e has ended, if it comes before b
 unfoldable pub freedIn : List ℕ → ℕ → ℕ → List ℕ → ℕ → ℕ
@@ -101,18 +113,6 @@ reopenedIn T t e w b =
     let own = freedIn T t e w b in
     cond (eqb (partnerOf T e) 0) own (freedIn T t (partnerOf T e) w own)
 
--- before this minute train k is not let in from t on, if it comes before b: when it becomes due, or, if it is held, when a block on what it asks for,
--- or on that one's partner, has ended
-unfoldable pub readyIn : List ℕ → ℕ → List ℕ → ℕ → ℕ → ℕ
-readyIn T t w k b =
-    let from = later t (getD w (8 + k) 0) in
-    let e = wanted T from w k in
-    cond (ltb from b) (cond (ltb e 65) (cond (ltb t from) from (cond (lets T from e w) from (reopenedIn T from e w b))) b) b
-
--- the first of these minutes, 65,536 for none: until then nobody moves
-unfoldable pub nextIn : List ℕ → ℕ → List ℕ → ℕ
-nextIn T t w = fold (λ i b. readyIn T t w (orderIn T i) b) (below (trainsIn T)) 65536
-
 -- ---- the run
 
 -- train k waits outside, with the delay of index d
@@ -122,14 +122,6 @@ waitsIn T k d w = set (set w k 65) (8 + k) (getD T (32 + k) 0 + getD T (48 + k *
 unfoldable pub startIn : List ℕ → List ℕ → List ℕ → List ℕ
 startIn T x w = fold (λ k u. waitsIn T k (getD x k 0) u) (below (trainsIn T)) w
 
--- train k's minute of arrival, sought in n minutes from t on; 65,535 for none
-unfoldable pub soughtIn : List ℕ → ℕ → ℕ → ℕ → List ℕ → ℕ
-soughtIn T k zero t w = 65535
-soughtIn T k (suc n) t w =
-    let u = minuteIn T t w in
-    let later = soughtIn T k n (suc t) u in
-    cond (eqb (getD u (16 + k) 0) 0) later (getD u (16 + k) 0 - 1)
-
--- the single run of the choice x
-unfoldable pub answerIn : List ℕ → List ℕ → ℕ → ℕ
-answerIn T x k = soughtIn T k (suc (getD T 1 0)) 0 (startIn T x (replicate {A = ℕ} runSize 0))
+-- the words after the run of the choice x to minute m
+unfoldable pub ranIn : List ℕ → List ℕ → ℕ → List ℕ
+ranIn T x m = fold (minuteIn T) (below (suc m)) (startIn T x (replicate {A = ℕ} runSize 0))

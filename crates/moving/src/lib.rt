@@ -1,23 +1,7 @@
-// A minute of the single run of one choice of delays on words: where each train is, when it is due, when it arrived, and what it blocks.
+// How a train of the single run is let in, on words: where each train is, when it is due, when it arrived, and what it blocks.
 ghost use mathlib.Core.Path.{_≡_};
 ghost use Prim.Native.Nat.{_≤_, _<_};
-ghost use Rattle.moving.specs.Words.{Small, wanted, holding, crowd, across, lets};
-ghost use Rattle.moving.specs.Words.{leftIn, stoodIn, arrivedIn, enteredIn, servedIn, elementIn, minuteIn, nearestIn};
-
-// The code of the element that train k asks for in minute t, 127 for none.
-pub fn wanted(tables: &[u64], run: &[u64], t: u64, k: u64) -> u64
-    requires { ⌜ k < 4294967296 ⌝ }
-    ensures { λ r. ⌜ r ≡ wanted (now (tables .entry)) t (now (run .entry)) k ⌝ }
-{
-    let p = words::at(run, k);
-    if p < 128 {
-        if words::at(run, 8 + k) <= t {
-            return words::at(tables, 240 + k * 128 + p);
-        }
-        return 127;
-    }
-    127
-}
+ghost use Rattle.moving.specs.Words.{Small, holding, crowd, across, lets, leftIn, stoodIn, arrivedIn, enteredIn};
 
 // Whether train k stands on e, and whether it blocks e in minute t.
 fn holding(run: &[u64], t: u64, e: u64, k: u64) -> u64
@@ -115,80 +99,11 @@ fn arrive(tables: &[u64], run: &mut [u64], t: u64, e: u64, k: u64)
 }
 
 // Train k enters e.
-fn enter(tables: &[u64], run: &mut [u64], t: u64, e: u64, k: u64)
+pub fn enter(tables: &[u64], run: &mut [u64], t: u64, e: u64, k: u64)
     requires { ⌜ Small (now tables) × (k < 4294967296) × (t < 65536) × (e < 65) ⌝ }
     ensures { λ _. ⌜ now (run .exit) ≡ enteredIn (now (tables .entry)) t e k (now (run .entry)) ⌝ }
 {
     leave(tables, run, t, k);
     stand(tables, run, t, e, k);
     arrive(tables, run, t, e, k);
-}
-
-// Train k enters e, if it asks for it and is let in.
-fn serve(tables: &[u64], run: &mut [u64], t: u64, e: u64, k: u64)
-    requires { ⌜ Small (now tables) × (k < 4294967296) × (t < 65536) × (e < 65) ⌝ }
-    ensures { λ _. ⌜ now (run .exit) ≡ servedIn (now (tables .entry)) t e k (now (run .entry)) ⌝ }
-{
-    let w = wanted(tables, run, t, k);
-    if w == e {
-        if lets(tables, run, t, e) {
-            enter(tables, run, t, e, k);
-        }
-    }
-}
-
-// The trains that ask for e are served in order.
-fn element(tables: &[u64], run: &mut [u64], t: u64, e: u64)
-    requires { ⌜ Small (now tables) × (t < 65536) × (e < 65) ⌝ }
-    ensures { λ _. ⌜ now (run .exit) ≡ elementIn (now (tables .entry)) t e (now (run .entry)) ⌝ }
-{
-    let n = words::at(tables, 0);
-    let mut i: u64 = 0;
-    while i < n {
-        let k = words::at(tables, 8 + i);
-        serve(tables, run, t, e, k);
-        i += 1;
-    }
-}
-
-// The nearest of an element q and the best so far, among those from e on.
-pub fn nearer(e: u64, q: u64, best: u64) -> u64
-    ensures { λ r. ⌜ r ≡ Rattle.moving.specs.Words.nearer e q best ⌝ }
-{
-    if e <= q {
-        if q < best {
-            return q;
-        }
-        return best;
-    }
-    best
-}
-
-// The nearest element from e on that some train asks for, 65 for none.
-fn nearest(tables: &[u64], run: &[u64], t: u64, e: u64) -> u64
-    requires { ⌜ Small (now tables) ⌝ }
-    ensures { λ r. ⌜ r ≡ nearestIn (now (tables .entry)) t (now (run .entry)) e ⌝ }
-{
-    let n = words::at(tables, 0);
-    let mut best: u64 = 65;
-    let mut i: u64 = 0;
-    while i < n {
-        let k = words::at(tables, 8 + i);
-        let q = wanted(tables, run, t, k);
-        best = nearer(e, q, best);
-        i += 1;
-    }
-    best
-}
-
-// Minute t: the elements that are asked for, by rising code.
-pub fn minute(tables: &[u64], run: &mut [u64], t: u64)
-    requires { ⌜ Small (now tables) × (t < 65536) ⌝ }
-    ensures { λ _. ⌜ now (run .exit) ≡ minuteIn (now (tables .entry)) t (now (run .entry)) ⌝ }
-{
-    let mut e = nearest(tables, run, t, 0);
-    while e < 65 {
-        element(tables, run, t, e);
-        e = nearest(tables, run, t, e + 1);
-    }
 }

@@ -1,6 +1,5 @@
 pub mod Looks
 pub mod Sums
-pub mod Skips
 pub mod Shows
 pub mod Passing
 pub mod Asking
@@ -10,3 +9,9 @@ pub mod Serving
 pub mod Waiting
 pub mod Runs
 pub mod Low
+pub mod Plan
+pub mod Held
+pub mod Asks
+pub mod Trail
+pub mod Going
+pub mod Moves

@@ -1,19 +1,16 @@
--- The single run on words is the single run of 01: element by element and minute by minute the words show the state of the run by passes, and the
--- minute that is sought is the minute of arrival. Arrivals stay once they are there. Assumes nothing.
+-- The single run on words is the single run of 01: element by element and minute by minute the words show the state of the run by passes, and so they
+-- tell who has arrived when. Assumes nothing.
 use mathlib.Core.Path.{_≡_, refl, sym, ap, _∙_, subst}
-use mathlib.Core.Bool.{Bool, false, cond}
+use mathlib.Core.Bool.{false}
 use mathlib.Core.List.{List, [], _∷_, map}
-use mathlib.Core.Option.{Option, none, some}
 use Prim.Native.Nat.{ℕ, zero, suc, _+_, _-_, _≤_, _<_}
 use native.Mathlib.Omega.{arith}
 use lib.ListN.{length, getD, replicate, length-map}
 use lib.Seq.{ext-getD}
-use lib.Dec.{eqb}
-use borrow.Author.Tests.{ne-eqb}
-use Rattle.rules.specs.Lists.{each, keep, fold, below}
+use Rattle.rules.specs.Lists.{fold, below}
 use Rattle.rules.specs.Files.{Case}
-use Rattle.rules.specs.Turns.{Place, Mark, arriving, State, state}
-use Rattle.rules.specs.Single.{firstMarks, minuteOf, arrival}
+use Rattle.rules.specs.Turns.{Mark, State, state}
+use Rattle.rules.specs.Single.{firstMarks, single, minuteOf, arrival}
 use Rattle.rules.specs.Calls.{choiceBroken}
 use Rattle.rules.specs.Answers.{minuteNumber}
 use Rattle.theory_sound.specs.Facts.{Sound}
@@ -23,13 +20,13 @@ use Rattle.theory_simulation.specs.Start.{first-orderly}
 use Rattle.theory_codes.specs.Codes.{placeOf}
 use Rattle.theory_codes.specs.Tables.{order, tables}
 use Rattle.theory_passes.specs.Order.{order-known, order-length}
-use Rattle.theory_lists.specs.Folds.{fold-map, fold-keeps}
-use Rattle.theory_passes.specs.Passes.{goes, passTrain, cleared, elementPasses, minutePasses, minutesPasses, singlePasses}
-use Rattle.theory_passes.specs.Single.{InOrder, passTrain-orderly, cleared-orderly, arrival-passes}
-use Rattle.moving.specs.Words.{runSize, orderIn, servedIn, elementIn, minuteIn, startIn, soughtIn, answerIn}
+use Rattle.theory_lists.specs.Folds.{fold-map}
+use Rattle.theory_passes.specs.Passes.{passTrain, cleared, elementPasses, minutePasses, minutesPasses, singlePasses}
+use Rattle.theory_passes.specs.Single.{InOrder, passTrain-orderly, cleared-orderly, single-passes}
+use Rattle.moving.specs.Words.{runSize, orderIn, servedIn, elementIn, minuteIn, startIn, ranIn}
+use Rattle.moving.specs.Turns.{fold-last}
 use Rattle.theory_lists.specs.Below.{getD-below}
 use Rattle.theory_codes.specs.Lookups.{table-trains, table-minute, table-order}
-use Rattle.single.specs.Sums.{orElse, minuteOf-append}
 use Rattle.single.specs.Shows as shows
 use Rattle.single.specs.Shows.{Shows, shows-cleared}
 use Rattle.single.specs.Asking.{few}
@@ -87,80 +84,54 @@ module _ (C : Case) (sound : Sound C) where
       fold-both (λ e. e < 65) (Follows t) (elementIn (tables C) t) (elementPasses C (passTrain C) t) (λ e low u v q. element-follows t e (omega arith) u v q) (below 65) (every-below 65) w
       (cleared (λ m. m) t s) (shows-cleared C b t w s l (r .0), cleared-orderly C sound t s (r .1))
 
-  -- ---- arrivals stay
+  -- ---- the run
 
-  abbrev Arrived : ℕ → ℕ → State Mark → Type 0
-  Arrived k u s = minuteOf k (s .arrived) ≡ some u
+  abbrev first : List ℕ → State Mark
+  first x = state (firstMarks C x) [] 0
 
-  passTrain-arrived : (k u t : ℕ) (e : Place) (j : ℕ) (s : State Mark) → Arrived k u s → Arrived k u (passTrain C t e j s)
-  unfolding passTrain
-  passTrain-arrived k u t e j s h =
-      let x = each (arriving C t e) (keep (goes C t e j (s .list)) (s .list)) in
-      minuteOf-append k (s .arrived) x ∙ ap (λ (m : Option ℕ). orElse m (minuteOf k x)) h
+  abbrev after : List ℕ → ℕ → List ℕ
+  after x m = fold (minuteIn (tables C)) (below m) (startIn (tables C) x (replicate {A = ℕ} runSize 0))
 
-  minute-arrived : (k u t : ℕ) (s : State Mark) → Arrived k u s → Arrived k u (minutePasses C (λ m. m) (passTrain C) t s)
-  unfolding minutePasses
-  minute-arrived k u t s h =
-      fold-keeps (Arrived k u) (elementPasses C (passTrain C) t)
-      (λ e v q. fold-keeps (Arrived k u) (passTrain C t (placeOf e)) (λ j z r. passTrain-arrived k u t (placeOf e) j z r) (order C) v q)
-      (below 65) (cleared (λ m. m) t s) h
+  abbrev passes : List ℕ → ℕ → State Mark
+  passes x m = minutesPasses C (λ a. a) (passTrain C) m (first x)
 
-  abbrev after : State Mark → ℕ → State Mark
-  after s t = minutesPasses C (λ m. m) (passTrain C) t s
-
-  later-arrived : (k u : ℕ) (s : State Mark) (d t : ℕ) → Arrived k u (after s t) → Arrived k u (after s (d + t))
+  -- after the first m minutes the words show the state of the run
+  run-follows : (x : List ℕ) → choiceBroken C x ≡ false → (m : ℕ) → (b : ℕ) × (b ≤ m) × Follows b (after x m) (passes x m)
   unfolding minutesPasses
-  later-arrived k u s zero t h = let e : t ≡ 0 + t = omega arith in subst (λ (m : ℕ). Arrived k u (after s m)) e h
-  later-arrived k u s (suc d) t h =
-      let e : suc (d + t) ≡ suc d + t = omega arith in
-      subst (λ (m : ℕ). Arrived k u (after s m)) e (minute-arrived k u (d + t) (after s (d + t)) (later-arrived k u s d t h))
-
-  -- ---- the search
-
-  sought-arrival : (k : ℕ) → k < n → (s : State Mark) (m t b : ℕ) → b ≤ t → (w : List ℕ) → Follows b w (after s t) → minuteOf k (after s t .arrived) ≡ none
-      → soughtIn (tables C) k m t w ≡ minuteNumber (minuteOf k (after s (m + t) .arrived))
-  unfolding soughtIn minutesPasses
-  sought-arrival k low s zero t b l w r q =
-      let e : t ≡ 0 + t = omega arith in
-      ap minuteNumber (sym q) ∙ ap (λ (i : ℕ). minuteNumber (minuteOf k (after s i .arrived))) e
-  sought-arrival k low s (suc m) t b l w r q =
-      go (getD u (16 + k) 0) refl (sought-arrival k low s m (suc t) t (omega arith) u next)
+  run-follows x unbroken zero = (0, omega arith, (start-shows C sound x unbroken, first-orderly C x))
+  run-follows x unbroken (suc m) = go (run-follows x unbroken m)
     where
-      u : List ℕ
-      u = minuteIn (tables C) t w
+      go : (b : ℕ) × (b ≤ m) × Follows b (after x m) (passes x m) → (b : ℕ) × (b ≤ suc m) × Follows b (after x (suc m)) (passes x (suc m))
+      go h = (
+        m,
+        omega arith,
+        subst (λ (u : List ℕ). Follows m u (passes x (suc m))) (sym (fold-last (minuteIn (tables C)) m (startIn (tables C) x (replicate {A = ℕ} runSize 0))))
+            (minute-follows (h .0) m (h .1) (after x m) (passes x m) (h .2)),
+      )
 
-      next : Follows t (minuteIn (tables C) t w) (after s (suc t))
-      next = minute-follows b t l w (after s t) r
+  -- the words after the run to minute m tell who has arrived when
+  pub ran-arrived : (x : List ℕ) → choiceBroken C x ≡ false → (k : ℕ) → k < n → (m : ℕ)
+      → minuteOf k (single C x m .arrived) ≡ shows.minuteIn (getD (ranIn (tables C) x m) (16 + k) 0)
+  unfolding ranIn singlePasses
+  ran-arrived x unbroken k low m =
+      ap (λ (s : State Mark). minuteOf k (s .arrived)) (single-passes C sound x m) ∙ run-follows x unbroken (suc m) .2 .0 .arrivals k low
 
-      later : ℕ
-      later = soughtIn (tables C) k m (suc t) u
+-- the minute that stands in a word, as the call answers it
+pub record Reads (v r : ℕ) : Type 0 where
+  pub none : v ≡ 0 → r ≡ 65535
+  pub some : (v ≡ 0 → ⊥) → r ≡ v - 1
 
-      go : (v : ℕ) → getD u (16 + k) 0 ≡ v → (minuteOf k (after s (suc t) .arrived) ≡ none → later ≡ minuteNumber (minuteOf k (after s (m + suc t) .arrived)))
-          → cond (eqb (getD u (16 + k) 0) 0) later (getD u (16 + k) 0 - 1) ≡ minuteNumber (minuteOf k (after s (suc m + t) .arrived))
-      go zero c ih =
-          let e : m + suc t ≡ suc m + t = omega arith in
-          ap (λ (x : ℕ). cond (eqb x 0) later (x - 1)) c
-          ∙ ih (next .0 .arrivals k low ∙ ap shows.minuteIn c)
-          ∙ ap (λ (i : ℕ). minuteNumber (minuteOf k (after s i .arrived))) e
-      go (suc v) c ih =
-          let e : m + suc t ≡ suc m + t = omega arith in
-          let d : suc v - 1 ≡ v = omega arith in
-          ap (λ (x : ℕ). cond (eqb x 0) later (x - 1)) c
-          ∙ ap (λ (z : Bool). cond z later (suc v - 1)) (ne-eqb (suc v) 0 (λ h. omega arith))
-          ∙ d
-          ∙ ap minuteNumber (sym (later-arrived k v s m (suc t) (next .0 .arrivals k low ∙ ap shows.minuteIn c)))
-          ∙ ap (λ (i : ℕ). minuteNumber (minuteOf k (after s i .arrived))) e
-
-  -- the answer on words is the minute of arrival
-  pub answer-arrival : (x : List ℕ) → choiceBroken C x ≡ false → (k : ℕ) → k < n → answerIn (tables C) x k ≡ minuteNumber (arrival C x k)
-  unfolding answerIn singlePasses minutesPasses
-  answer-arrival x unbroken k low =
-      let e : suc (C .head .lastMinute) + 0 ≡ suc (C .head .lastMinute) = omega arith in
-      ap (λ (m : ℕ). soughtIn (tables C) k (suc m) 0 (startIn (tables C) x (replicate {A = ℕ} runSize 0))) (table-minute C)
-      ∙ sought-arrival k low first (suc (C .head .lastMinute)) 0 0 (omega arith) (startIn (tables C) x (replicate {A = ℕ} runSize 0))
-      (start-shows C sound x unbroken, first-orderly C x) refl
-      ∙ ap (λ (i : ℕ). minuteNumber (minuteOf k (after first i .arrived))) e
-      ∙ ap minuteNumber (sym (arrival-passes C sound x k))
-    where
-      first : State Mark
-      first = state (firstMarks C x) [] 0
+-- what is read after the run to the last minute is the minute of arrival
+pub ran-arrives : (T x : List ℕ) (k r : ℕ) → Reads (getD (ranIn T x (getD T 1 0)) (16 + k) 0) r → Arrives T x k r
+unfolding arrival
+ran-arrives T x k r reads C sound tabled unbroken low =
+    go (getD (ranIn T x (getD T 1 0)) (16 + k) 0) refl reads
+    ∙ ap minuteNumber (
+    ap shows.minuteIn (
+    ap (λ (t : List ℕ). getD (ranIn t x (getD t 1 0)) (16 + k) 0) tabled
+    ∙ ap (λ (m : ℕ). getD (ranIn (tables C) x m) (16 + k) 0) (table-minute C))
+    ∙ sym (ran-arrived C sound x unbroken k low (C .head .lastMinute)))
+  where
+    go : (v : ℕ) → getD (ranIn T x (getD T 1 0)) (16 + k) 0 ≡ v → Reads v r → r ≡ minuteNumber (shows.minuteIn v)
+    go zero h q = q .none refl
+    go (suc v) h q = let e : suc v - 1 ≡ v = omega arith in q .some (λ z. omega arith) ∙ e

@@ -32,10 +32,10 @@ use Rattle.single.specs.Asking.{few}
 
 module _ (T x : List ℕ) where
   -- the due minute of a train of the choice
-  abbrev dueIn : ℕ → ℕ
-  dueIn k = getD T (32 + k) 0 + getD T (48 + k * 8 + getD x k 0) 0
+  abbrev pub firstDue : ℕ → ℕ
+  firstDue k = getD T (32 + k) 0 + getD T (48 + k * 8 + getD x k 0) 0
 
-  abbrev begun : ℕ → ℕ → List ℕ → List ℕ
+  abbrev pub begun : ℕ → ℕ → List ℕ → List ℕ
   begun m j w = fold (λ k u. waitsIn T k (getD x k 0) u) (span m j) w
 
   waits-length : (k : ℕ) (w : List ℕ) → length (waitsIn T k (getD x k 0) w) ≡ length w
@@ -44,29 +44,29 @@ module _ (T x : List ℕ) where
 
   waits-other : (k i : ℕ) (w : List ℕ) → (i ≡ k → ⊥) → (i ≡ 8 + k → ⊥) → getD (waitsIn T k (getD x k 0) w) i 0 ≡ getD w i 0
   unfolding waitsIn
-  waits-other k i w d f = getD-set-other (set w k 65) (8 + k) i (dueIn k) 0 f ∙ getD-set-other w k i 65 0 d
+  waits-other k i w d f = getD-set-other (set w k 65) (8 + k) i (firstDue k) 0 f ∙ getD-set-other w k i 65 0 d
 
   waits-place : (k : ℕ) (w : List ℕ) → k < length w → getD (waitsIn T k (getD x k 0) w) k 0 ≡ 65
   unfolding waitsIn
-  waits-place k w l = getD-set-other (set w k 65) (8 + k) k (dueIn k) 0 (λ q. omega arith) ∙ getD-set-same w k 65 0 l
+  waits-place k w l = getD-set-other (set w k 65) (8 + k) k (firstDue k) 0 (λ q. omega arith) ∙ getD-set-same w k 65 0 l
 
-  waits-due : (k : ℕ) (w : List ℕ) → 8 + k < length w → getD (waitsIn T k (getD x k 0) w) (8 + k) 0 ≡ dueIn k
+  waits-due : (k : ℕ) (w : List ℕ) → 8 + k < length w → getD (waitsIn T k (getD x k 0) w) (8 + k) 0 ≡ firstDue k
   unfolding waitsIn
-  waits-due k w l = getD-set-same (set w k 65) (8 + k) (dueIn k) 0 (omega (arith, length-set w k 65))
+  waits-due k w l = getD-set-same (set w k 65) (8 + k) (firstDue k) 0 (omega (arith, length-set w k 65))
 
-  begun-length : (m j : ℕ) (w : List ℕ) → length (begun m j w) ≡ length w
+  pub begun-length : (m j : ℕ) (w : List ℕ) → length (begun m j w) ≡ length w
   begun-length zero j w = refl
   begun-length (suc m) j w = begun-length m (suc j) (waitsIn T j (getD x j 0) w) ∙ waits-length j w
 
   -- a word that is no train's of the span
-  begun-other : (m j i : ℕ) (w : List ℕ) → ((k : ℕ) → j ≤ k → k < j + m → (i ≡ k → ⊥) × (i ≡ 8 + k → ⊥)) → getD (begun m j w) i 0 ≡ getD w i 0
+  pub begun-other : (m j i : ℕ) (w : List ℕ) → ((k : ℕ) → j ≤ k → k < j + m → (i ≡ k → ⊥) × (i ≡ 8 + k → ⊥)) → getD (begun m j w) i 0 ≡ getD w i 0
   begun-other zero j i w h = refl
   begun-other (suc m) j i w h =
       begun-other m (suc j) i (waitsIn T j (getD x j 0) w) (λ k l q. h k (omega arith) (omega arith))
       ∙ waits-other j i w (h j (omega arith) (omega arith) .0) (h j (omega arith) (omega arith) .1)
 
   -- the two words of a train of the span
-  begun-own : (m j k : ℕ) (w : List ℕ) → length w ≡ 544 → j ≤ k → k < j + m → j + m ≤ 8 → (getD (begun m j w) k 0 ≡ 65) × (getD (begun m j w) (8 + k) 0 ≡ dueIn k)
+  pub begun-own : (m j k : ℕ) (w : List ℕ) → length w ≡ 544 → j ≤ k → k < j + m → j + m ≤ 8 → (getD (begun m j w) k 0 ≡ 65) × (getD (begun m j w) (8 + k) 0 ≡ firstDue k)
   begun-own zero j k w size l q r = absurd (omega arith)
   begun-own (suc m) j k w size l q r = go (eqb k j) refl (begun-own m (suc j) k (waitsIn T j (getD x j 0) w) (waits-length j w ∙ size))
     where
@@ -74,12 +74,12 @@ module _ (T x : List ℕ) where
       u = waitsIn T j (getD x j 0) w
 
       go : (b : Bool) → eqb k j ≡ b
-          → (suc j ≤ k → k < suc j + m → suc j + m ≤ 8 → (getD (begun m (suc j) u) k 0 ≡ 65) × (getD (begun m (suc j) u) (8 + k) 0 ≡ dueIn k))
-          → (getD (begun m (suc j) u) k 0 ≡ 65) × (getD (begun m (suc j) u) (8 + k) 0 ≡ dueIn k)
+          → (suc j ≤ k → k < suc j + m → suc j + m ≤ 8 → (getD (begun m (suc j) u) k 0 ≡ 65) × (getD (begun m (suc j) u) (8 + k) 0 ≡ firstDue k))
+          → (getD (begun m (suc j) u) k 0 ≡ 65) × (getD (begun m (suc j) u) (8 + k) 0 ≡ firstDue k)
       go true f ih =
           let own : k ≡ j = eqb-true k j f in (
             begun-other m (suc j) k u (λ i a b. (λ e. omega arith, λ e. omega arith)) ∙ ap (λ (i : ℕ). getD u i 0) own ∙ waits-place j w (omega arith),
-            begun-other m (suc j) (8 + k) u (λ i a b. (λ e. omega arith, λ e. omega arith)) ∙ ap (λ (i : ℕ). getD u (8 + i) 0) own ∙ waits-due j w (omega arith) ∙ ap dueIn (sym own),
+            begun-other m (suc j) (8 + k) u (λ i a b. (λ e. omega arith, λ e. omega arith)) ∙ ap (λ (i : ℕ). getD u (8 + i) 0) own ∙ waits-due j w (omega arith) ∙ ap firstDue (sym own),
           )
       go false f ih = let other : k ≡ j → ⊥ = eqb-false k j f in ih (omega arith) (omega arith) (omega arith)
 
@@ -90,14 +90,14 @@ module _ (C : Case) (sound : Sound C) (x : List ℕ) (unbroken : choiceBroken C 
   abbrev w : List ℕ
   w = begun (tables C) x n 0 (replicate {A = ℕ} runSize 0)
 
-  first-own : (k : ℕ) → k < n → (getD w k 0 ≡ 65) × (getD w (8 + k) 0 ≡ dueIn (tables C) x k)
+  first-own : (k : ℕ) → k < n → (getD w k 0 ≡ 65) × (getD w (8 + k) 0 ≡ firstDue (tables C) x k)
   first-own k l = begun-own (tables C) x n 0 k (replicate {A = ℕ} runSize 0) (length-replicate {A = ℕ} runSize 0) (omega arith) (omega arith) (omega (arith, sound .few-trains))
 
   first-none : (i : ℕ) → 16 ≤ i → getD w i 0 ≡ 0
   first-none i l =
       begun-other (tables C) x n 0 i (replicate {A = ℕ} runSize 0) (λ k a b. (λ e. omega (arith, sound .few-trains), λ e. omega (arith, sound .few-trains))) ∙ zeros-at runSize i
 
-  first-due : (k : ℕ) → k < n → dueIn (tables C) x k ≡ firstArrival (trainAt C k .stops) + pairAt C k (getD x k 0) .delay
+  first-due : (k : ℕ) → k < n → firstDue (tables C) x k ≡ firstArrival (trainAt C k .stops) + pairAt C k (getD x k 0) .delay
   first-due k l =
       ap₂ _+_ (table-first C k l (few C sound l))
       (look-delay C k (few C sound l) (getD x k 0) (omega (arith, choice-at C sound x (unbroken-choice C sound x unbroken) k l, sound .few-pairs k l)))

@@ -6,7 +6,7 @@ use Prim.Native.Nat.{ℕ}
 use native.Mathlib.Nat.{le-refl}
 use Rattle.rules.specs.Files.{Case}
 use Rattle.rules.specs.Turns.{Place, Mark, State}
-use Rattle.rules.specs.Single.{firstMarks, singleRules, single, minuteOf, arrival}
+use Rattle.rules.specs.Single.{firstMarks, singleRules, single}
 use Rattle.theory_sound.specs.Facts.{Sound}
 use Rattle.theory_simulation.specs.Orderly.{Orderly}
 use Rattle.theory_simulation.specs.Steps.{serve-orderly, end-orderly}
@@ -38,8 +38,3 @@ module _ (C : Case) (sound : Sound C) where
   single-passes x m =
       runs.run-codes C (singleRules C) (passTrain C) m (InOrder C) (λ t h. passTrain-orderly t) (λ t h. cleared-orderly t) sound (single-own C) (λ t h. walk-passTrain C t)
       (firstMarks C x) (first-orderly C x) m (le-refl m)
-
-  -- and so is the minute of arrival found
-  pub arrival-passes : (x : List ℕ) (k : ℕ) → arrival C x k ≡ minuteOf k (singlePasses C x (C .head .lastMinute) .arrived)
-  unfolding arrival
-  arrival-passes x k = ap (λ (s : State Mark). minuteOf k (s .arrived)) (single-passes x (C .head .lastMinute))

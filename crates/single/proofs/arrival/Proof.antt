@@ -1,39 +1,80 @@
--- `single::arrival` meets its contract: the search from the first words on, which is the minute of arrival of 01's single run. Assumes nothing.
-use mathlib.Core.Path.{ap, _∙_}
+-- `single::arrival` meets its contract: the run of the choice to the last minute, and the minute that stands in its words. Assumes nothing.
+use mathlib.Core.Path.{_≡_, refl, sym, ap, _∙_}
 use mathlib.Core.List.{List}
-use Prim.Native.Nat.{ℕ, suc}
+use Prim.Native.Nat.{ℕ, _+_, _-_}
+use native.Mathlib.Omega.{arith}
 use lib.ListN.{getD}
-use Rattle.moving.specs.Words.{soughtIn, answerIn}
-use Rattle.single.specs.Runs.{answer-arrival}
+use Rattle.moving.specs.Words.{ranIn}
+use Rattle.single.specs.Trail.{left-first}
+use Rattle.single.specs.Runs.{ran-arrives}
 use borrow.Author.Needs.{needs}
 use Rattle.single.proofs.arrival.Statement.{statement}
 use Rattle.single.proofs.arrival.Tie as tie
 
-slice-aggregate-start : tie.Need-slice-aggregate-start
-slice-aggregate-start c = search needs
+at-requires : tie.Need-at-requires
+at-requires c κs = search needs
 
-start-requires : tie.Need-start-requires
-start-requires c κs = search needs
+slice-aggregate-run-to : tie.Need-slice-aggregate-run-to
+slice-aggregate-run-to c = search needs
 
-slice-aggregate-seek : tie.Need-slice-aggregate-seek
-slice-aggregate-seek c = search needs
+slice-aggregate-run-to-2 : tie.Need-slice-aggregate-run-to-2
+slice-aggregate-run-to-2 c = search needs
 
-seek-requires : tie.Need-seek-requires
-seek-requires c κs = search needs
+run-to-requires : tie.Need-run-to-requires
+run-to-requires c κs =
+    let p = c .before .before .before .before .before .pre in
+    (p .0, omega (arith, c .before .before .at .ensures, p .2), left-first (c .before .before .before .before .before .args .tables .now))
+
+slice-aggregate-at : tie.Need-slice-aggregate-at
+slice-aggregate-at c = search needs
+
+add-at : tie.Need-add-at
+add-at c = search needs
+
+at-requires-2 : tie.Need-at-requires-2
+at-requires-2 c κs = search needs
+
+-- the word that is read
+reads : (T x u : List ℕ) (k stop after : ℕ) → stop ≡ getD T 1 0 → u ≡ ranIn T x stop → after ≡ getD u (16 + k) 0
+    → after ≡ getD (ranIn T x (getD T 1 0)) (16 + k) 0
+reads T x u k stop after last ran read =
+    read ∙ ap (λ (l : List ℕ). getD l (16 + k) 0) ran ∙ ap (λ (m : ℕ). getD (ranIn T x m) (16 + k) 0) last
 
 returns : tie.Need-returns
-unfolding answerIn
 returns c =
-    let a = c .before .before .before .before .before .before .before .before .args in
-    let words =
-    c .before .seek .ensures ∙ ap (soughtIn (a .tables .now) (a .k) (suc (getD (a .tables .now) 1 0)) 0) (c .before .before .before .before .start .ensures)
-    in (
-      words,
-      λ C sound tabled unbroken low.
-          words ∙ ap (λ (T : List ℕ). answerIn T (a .choice .now) (a .k)) tabled ∙ answer-arrival C sound (a .choice .now) unbroken (a .k) low,
-    )
+    let after = c .before in
+    let ran = after .before .before .before .before in
+    let last = ran .before .before .before in
+    let a = last .before .before .before .args in
+    let word = reads (a .tables .now) (a .choice .now) _ (a .k) (last .at .result) (after .at2 .result)
+    (last .at .ensures) (ran .run-to .ensures .0) (after .at2 .ensures) in
+    ran-arrives (a .tables .now) (a .choice .now) (a .k) 65535 (record { none = λ h. refl; some = λ h. absurd (h (sym word ∙ c .if1 .taken)) })
+
+sub-result : tie.Need-sub-result
+sub-result c = search needs
+
+returns-2 : tie.Need-returns-2
+returns-2 c =
+    let after = c .before in
+    let ran = after .before .before .before .before in
+    let last = ran .before .before .before in
+    let a = last .before .before .before .args in
+    let word = reads (a .tables .now) (a .choice .now) _ (a .k) (last .at .result) (after .at2 .result)
+    (last .at .ensures) (ran .run-to .ensures .0) (after .at2 .ensures) in
+    ran-arrives (a .tables .now) (a .choice .now) (a .k) (after .at2 .result - 1)
+    (record { none = λ h. absurd (c .if1 .left (word ∙ h)); some = λ h. ap (λ (v : ℕ). v - 1) word })
 
 pub arrival-spec : {M : Type 1} → statement M
 arrival-spec =
     tie.close
-    (tie.spec slice-aggregate-start start-requires slice-aggregate-seek seek-requires returns)
+    (tie.spec
+    at-requires
+    slice-aggregate-run-to
+    slice-aggregate-run-to-2
+    run-to-requires
+    slice-aggregate-at
+    add-at
+    at-requires-2
+    returns
+    sub-result
+    returns-2)
