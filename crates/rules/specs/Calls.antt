@@ -80,9 +80,13 @@ rowImage r =
     r .mark .train ∷ cond (r .mark .blocks) 2 1 ∷ kindOf (r .mark .place) ∷ numberOf (r .mark .place)
     ∷ bytes 2 (r .mark .minute) ++ (0 ∷ 0 ∷ coverImage (r .cover))
 
--- 7 by 720 weights, train by train, one a minute, in 8 bytes each
+-- 7 by 720 weights, train by train, one a minute, in 8 bytes each: that of train k in minute t is `weight k t`
+abbrev pub imageBy : (ℕ → ℕ → ℕ) → List ℕ
+imageBy weight = each (λ k. each (λ t. bytes 8 (weight k t)) (below 720)) (below mostTrains)
+
+-- the weights that have arrived
 unfoldable pub weightsImage : Run → List ℕ
-weightsImage u = each (λ k. each (λ t. bytes 8 (weightAt (u .of) (u .state .arrived) k t)) (below 720)) (below mostTrains)
+weightsImage u = imageBy (weightAt (u .of) (u .state .arrived))
 
 -- the bytes of the listing
 unfoldable pub textOf : Run → List ℕ

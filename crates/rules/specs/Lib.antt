@@ -13,5 +13,6 @@ pub mod Calls
 pub mod Program
 pub mod Demands
 pub mod Decoded
+pub mod Plain
 pub mod Promised
 pub mod Points

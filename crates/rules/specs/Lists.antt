@@ -4,7 +4,7 @@
 -- n times v; `l ++ m` is l and then m. Assumes nothing: these are definitions.
 use mathlib.Core.Bool.{Bool, true, false, _||_}
 use mathlib.Core.List.{List, [], _∷_, _++_}
-use Prim.Native.Nat.{ℕ, zero, suc, _+_}
+use Prim.Native.Nat.{ℕ, zero, suc, _+_, _*_}
 use lib.Dec.{eqb}
 
 -- v alone, or nothing
@@ -35,6 +35,11 @@ tick false = 0
 abbrev pub sum {ℓ} : {A : Type ℓ} → (A → ℕ) → List A → ℕ
 sum f [] = 0
 sum f (a ∷ l) = f a + sum f l
+
+-- the product of what f says of each
+abbrev pub product {ℓ} : {A : Type ℓ} → (A → ℕ) → List A → ℕ
+product f [] = 1
+product f (a ∷ l) = f a * product f l
 
 -- how many pass the test
 abbrev pub count {ℓ} : {A : Type ℓ} → (A → Bool) → List A → ℕ

@@ -7,7 +7,7 @@ use mathlib.Core.Option.{Option, none, some}
 use Prim.Native.Nat.{ℕ, _+_, _-_, _*_, _^_, _≤_, _<_}
 use lib.ListN.{length, getD, take, drop, replicate}
 use lib.Dec.{leb, ltb, eqb}
-use Rattle.rules.specs.Lists.{each, keep, any, sum, below}
+use Rattle.rules.specs.Lists.{each, keep, any, sum, product, below}
 use Rattle.rules.specs.Refusals.{Refusal, Result}
 use Rattle.rules.specs.Refusals.Result.{refused, answer}
 use Rattle.rules.specs.Files.{mostTrains, Case, files}
@@ -19,6 +19,7 @@ use Rattle.rules.specs.Figures.Punctuality.{never, always, share}
 use Rattle.rules.specs.Calls.{Memory, short}
 use Rattle.rules.specs.Demands.{Choice, arrivesIn, arrivesNever, view, Simulates, passes, runLists}
 use Rattle.rules.specs.Decoded.{entriesIn, weightIn}
+use Rattle.rules.specs.Plain.{capped}
 
 -- ---- files
 
@@ -171,3 +172,41 @@ pub record Meant (C : Case) (m n : ℕ) (rows weights rows′ weights′ : List 
 pub record TextMeant (printed text text′ : List ℕ) : Type 0 where
   pub starts : take (length printed) text′ ≡ printed
   pub unused : Unused 32768 (length printed) text text′
+
+-- ---- the plain engine (request 2 of 02)
+
+-- the product, over the trains, of the sizes of their tables
+unfoldable pub combinations : Case → ℕ
+combinations C = product (λ k. length (getD (C .tables) k [])) (below (length (C .trains)))
+
+-- the weight of those of these choices whose single run brings train k to its last station in minute t
+abbrev pub broughtOf : Case → List (List ℕ) → ℕ → ℕ → ℕ
+broughtOf C xs k t = sum (weightOf C) (keep (arrivesIn C k t) xs)
+
+-- What the two plain calls come to: as `Outcome`, but there is no refusal for room. S is promised of a call that lacks memory, R of one that is refused, A of one that
+-- is answered.
+pub data PlainOutcome (cs bk : List ℕ) (m : ℕ) (weights : List ℕ) (S : Type 0) (R : Refusal → Type 0) (A : Case → Type 0) : Type 0 where
+  -- 14, before all others
+  lacks-memory : length weights < 40320 → S → PlainOutcome cs bk m weights S R A
+  -- the first refusal of the files
+  refuses-files : 40320 ≤ length weights → (f : Refusal) → files cs bk ≡ refused f → R f → PlainOutcome cs bk m weights S R A
+  -- 17: the stop minute is above T
+  refuses-stop : 40320 ≤ length weights → (C : Case) → files cs bk ≡ answer C → C .head .lastMinute < m → R (refusalOf 17) → PlainOutcome cs bk m weights S R A
+  -- otherwise it is answered, whatever the room
+  answers : 40320 ≤ length weights → (C : Case) → files cs bk ≡ answer C → m ≤ C .head .lastMinute → A C → PlainOutcome cs bk m weights S R A
+
+-- what the weights hold after every choice of case C was run by itself to minute m
+pub record Weighed (C : Case) (m : ℕ) (weights weights′ : List ℕ) : Type 0 where
+  -- demand 2: the weight of exactly the choices whose single run brings train k to its last station in minute t
+  pub weighs : (k t : ℕ) → k < mostTrains → t ≤ m → weightIn weights′ k t ≡ brought C k t
+  -- and 0 in the minutes after m
+  pub later : (k t : ℕ) → k < mostTrains → m < t → t < 720 → weightIn weights′ k t ≡ 0
+  pub past : drop 40320 weights′ ≡ drop 40320 weights
+
+-- what they hold after the choices xs were run by themselves to minute m and added to weights as they were lent
+pub record Added (C : Case) (m : ℕ) (xs : List (List ℕ)) (weights weights′ : List ℕ) : Type 0 where
+  -- the sum over the choices of the part, added; a sum that passes 2^64 − 1 is 2^64 − 1
+  pub weighs : (k t : ℕ) → k < mostTrains → t ≤ m → weightIn weights′ k t ≡ capped (weightIn weights k t + broughtOf C xs k t)
+  -- nothing is added in the minutes after m
+  pub later : (k t : ℕ) → k < mostTrains → m < t → t < 720 → weightIn weights′ k t ≡ weightIn weights k t
+  pub past : drop 40320 weights′ ≡ drop 40320 weights
