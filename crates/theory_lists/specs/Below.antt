@@ -1,17 +1,17 @@
--- Laws of `span` and `below`: one number more, what holds of every number in a row, one number among them, and the numbers below n as a set.
+-- Laws of `span` and `below`: one number more, numbers by blocks, what holds of every number in a row, one number among them, and the numbers below n as a set.
 -- Each is shown by induction on how many there are. Assumes nothing.
 use mathlib.Core.Path.{subst, _≡_, refl, sym, ap, ap₂, _∙_}
 use mathlib.Core.Bool.{Bool, true, false, _||_, or-true, or-false}
 use mathlib.Core.List.{List, [], _∷_, _++_, map, append-nil}
-use Prim.Native.Nat.{ℕ, zero, suc, _+_, _≤_, _<_}
-use native.Mathlib.Nat.{not-suc-le-zero, le-of-suc-le-suc, add-zero, zero-add}
+use Prim.Native.Nat.{ℕ, zero, suc, _+_, _*_, _≤_, _<_}
+use native.Mathlib.Nat.{not-suc-le-zero, le-of-suc-le-suc, add-zero, zero-add, suc-mul}
 use native.Mathlib.Numerals.{add-one}
 use native.Mathlib.Omega.{arith}
-use lib.ListN.{length, getD}
+use lib.ListN.{length, getD, length-append}
 use lib.Dec.{eqb, ltb}
 use borrow.Author.Tests.{eqb-true, eqb-false, eq-eqb, ne-eqb, ltb-true, ltb-false}
 use Rattle.rules.specs.Lists.{each, any, tick, sum, count, span, below, has}
-use Rattle.theory_lists.specs.Each.{each-append, each-none}
+use Rattle.theory_lists.specs.Each.{each-append, each-same, each-none, each-alone}
 use Rattle.theory_lists.specs.Every.{Every, every-right, every-more, each-every, any-append, any-every}
 use Rattle.theory_lists.specs.Sums.{tick-le, sum-append, sum-every, sum-zero}
 
@@ -65,6 +65,44 @@ module _ {ℓ} {A : Type ℓ} (f : ℕ → List A) where
 -- what is made alike of each number below n
 pub each-below-same {ℓ} : {A : Type ℓ} (f g : ℕ → List A) (n : ℕ) → ((i : ℕ) → i < n → f i ≡ g i) → each f (below n) ≡ each g (below n)
 each-below-same f g n h = each-every (λ i. i < n) f g h (below n) (every-below n)
+
+module _ {ℓ} {A : Type ℓ} (f : ℕ → List A) where
+  -- parts of one width
+  pub length-parts : (w : ℕ) → ((i : ℕ) → length (f i) ≡ w) → (n : ℕ) → length (each f (below n)) ≡ n * w
+  length-parts w h n = go n 0
+    where
+      go : (n k : ℕ) → length (each f (span n k)) ≡ n * w
+      go zero k = omega arith
+      go (suc n) k = omega (arith, length-append (f k) (each f (span n (suc k))), h k, go n (suc k), suc-mul n w)
+
+-- numbers from j on, by their distance from j
+pub each-span-from {ℓ} : {A : Type ℓ} (f : ℕ → List A) (n j : ℕ) → each f (span n j) ≡ each (λ t. f (j + t)) (below n)
+each-span-from f n zero = each-below-same f (λ t. f (zero + t)) n (λ t h. ap f (omega arith))
+each-span-from f n (suc j) =
+    each-span-next f n j ∙ each-span-from (λ i. f (suc i)) n j ∙ each-below-same (λ t. f (suc (j + t))) (λ t. f (suc j + t)) n (λ t h. ap f (omega arith))
+
+-- numbers by blocks of b
+pub each-blocks {ℓ} : {A : Type ℓ} (f : ℕ → List A) (a b : ℕ) → each f (below (a * b)) ≡ each (λ k. each (λ t. f (k * b + t)) (below b)) (below a)
+each-blocks f zero b =
+    let none : zero * b ≡ zero = omega arith in
+    ap (λ (n : ℕ). each f (below n)) none
+each-blocks f (suc a) b =
+    let all : suc a * b ≡ a * b + b = suc-mul a b in
+    let at : a * b + 0 ≡ a * b = omega arith in
+    ap (λ (n : ℕ). each f (below n)) all
+    ∙ ap (each f) (span-append (a * b) b 0)
+    ∙ each-append f (below (a * b)) (span b (a * b + 0))
+    ∙ ap₂ _++_ (each-blocks f a b) (ap (λ (j : ℕ). each f (span b j)) at ∙ each-span-from f b (a * b))
+    ∙ sym (each-below-more (λ k. each (λ t. f (k * b + t)) (below b)) a)
+    ∙ ap (λ (n : ℕ). each (λ k. each (λ t. f (k * b + t)) (below b)) (below n)) (add-one a)
+
+-- one item made of each number, by blocks of b
+pub map-blocks {ℓ} : {A : Type ℓ} (f : ℕ → A) (a b : ℕ) → map f (below (a * b)) ≡ each (λ k. map (λ t. f (k * b + t)) (below b)) (below a)
+map-blocks f a b =
+    sym (each-alone f (below (a * b)))
+    ∙ each-blocks (λ i. f i ∷ []) a b
+    ∙ each-same (λ k. each (λ t. f (k * b + t) ∷ []) (below b)) (λ k. map (λ t. f (k * b + t)) (below b))
+    (λ k. each-alone (λ t. f (k * b + t)) (below b)) (below a)
 
 module _ {ℓ} {A : Type ℓ} (f : ℕ → A) where
   pub length-span-map : (n i : ℕ) → length (map f (span n i)) ≡ n

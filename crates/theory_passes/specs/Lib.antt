@@ -11,4 +11,5 @@ pub mod Before
 pub mod Arrivals
 pub mod Alone
 pub mod Single
+pub mod Unknown
 pub mod Bounds

@@ -90,7 +90,7 @@ abbrev pub By : ℕ → Option ℕ → Type 0
 By m none = Unit
 By m (some u) = u ≤ m
 
-minute-by : (m k : ℕ) (vs : List (Arrival Mark)) → Every (λ v. v .minute ≤ m) vs → By m (minuteOf k vs)
+pub minute-by : (m k : ℕ) (vs : List (Arrival Mark)) → Every (λ v. v .minute ≤ m) vs → By m (minuteOf k vs)
 minute-by m k [] h = tt
 minute-by m k (v ∷ vs) h = go (eqb (v .who .train) k) (minute-by m k vs (h .1))
   where
@@ -125,7 +125,7 @@ minute-grown k t (v ∷ vs) new h = go (eqb (v .who .train) k) (minute-grown k t
 -- ---- the weights
 
 -- the weight added for train k in minute t, by the minutes of the single runs after minute m
-arrived-at : (C : Case) (m : ℕ) → Seen C m → (k t : ℕ)
+pub arrived-at : (C : Case) (m : ℕ) → Seen C m → (k t : ℕ)
     → weightAt C (joint C m .arrived) k t ≡ sum (λ x. tick (isIn t (minuteOf k (single C x m .arrived))) * weightOf C x) (choices C)
 arrived-at C m S k t =
     weightAt-choices C (joint C m .arrived) k t (S .parts)
@@ -135,34 +135,36 @@ arrived-at C m S k t =
     ∙ mul-comm (weightOf C x) (tick (isIn t (minuteOf k (single C x m .arrived)))))
     (choices C) (choices-whole C)
 
+-- a single run that goes on after minute m brings no train in earlier
+pub single-in : (C : Case) (m : ℕ) → m ≤ C .head .lastMinute → (k t : ℕ) → t ≤ m → (x : List ℕ) → arrivesIn C k t x ≡ isIn t (minuteOf k (single C x m .arrived))
+unfolding arrivesIn arrival
+single-in C m h k t l x =
+    let g = single-later C x m (C .head .lastMinute) h in
+    ap (λ (vs : List (Arrival Mark)). isIn t (minuteOf k vs)) (g .grown)
+    ∙ minute-grown k t (single C x m .arrived) (g .new) (every-more (λ v. m < v .minute) (λ v. t < v .minute) (λ v q. omega arith) (g .new) (g .kind))
+
+-- and none after it
+pub single-not-in : (C : Case) (m k t : ℕ) → m < t → (x : List ℕ) → isIn t (minuteOf k (single C x m .arrived)) ≡ false
+single-not-in C m k t h x = go (minuteOf k (single C x m .arrived)) (minute-by m k (single C x m .arrived) (single-logged C x m))
+  where
+    go : (o : Option ℕ) → By m o → isIn t o ≡ false
+    go none b = refl
+    go (some u) b = ne-eqb u t (λ e. omega arith)
+
 -- the weight that the run stopped after minute m has added for train k in a minute t ≤ m is that of the choices whose single run brings it in in minute t
 pub arrived-weight : (C : Case) (m : ℕ) → Seen C m → m ≤ C .head .lastMinute → (k t : ℕ) → t ≤ m
     → weightAt C (joint C m .arrived) k t ≡ sum (weightOf C) (keep (arrivesIn C k t) (choices C))
-unfolding arrivesIn arrival
 arrived-weight C m S h k t l =
     arrived-at C m S k t
-    ∙ sum-same _ (λ x. tick (isIn t (minuteOf k (single C x T .arrived))) * weightOf C x)
-    (λ x. ap (λ (b : Bool). tick b * weightOf C x) (sym (later x))) (choices C)
-    ∙ sym (sum-keep (weightOf C) (λ x. isIn t (minuteOf k (single C x T .arrived))) (choices C))
-  where
-    T : ℕ
-    T = C .head .lastMinute
-
-    later : (x : List ℕ) → isIn t (minuteOf k (single C x T .arrived)) ≡ isIn t (minuteOf k (single C x m .arrived))
-    later x =
-        let g = single-later C x m T h in
-        ap (λ (vs : List (Arrival Mark)). isIn t (minuteOf k vs)) (g .grown) ∙ minute-grown k t (single C x m .arrived) (g .new) (every-more (λ v. m < v .minute) (λ v. t < v .minute) (λ v q. omega arith) (g .new) (g .kind))
+    ∙ sum-same _ (λ x. tick (arrivesIn C k t x) * weightOf C x) (λ x. ap (λ (b : Bool). tick b * weightOf C x) (sym (single-in C m h k t l x))) (choices C)
+    ∙ sym (sum-keep (weightOf C) (arrivesIn C k t) (choices C))
 
 -- a run stopped after minute m has added nothing in later minutes
 pub arrived-later : (C : Case) (m : ℕ) → Seen C m → (k t : ℕ) → m < t → weightAt C (joint C m .arrived) k t ≡ 0
 arrived-later C m S k t h =
     arrived-at C m S k t
-    ∙ sum-same _ (λ x. 0) (λ x. nothing x (minuteOf k (single C x m .arrived)) (minute-by m k (single C x m .arrived) (single-logged C x m))) (choices C)
+    ∙ sum-same _ (λ x. 0) (λ x. ap (λ (b : Bool). tick b * weightOf C x) (single-not-in C m k t h x) ∙ zero-mul (weightOf C x)) (choices C)
     ∙ sum-zero (choices C)
-  where
-    nothing : (x : List ℕ) (o : Option ℕ) → By m o → tick (isIn t o) * weightOf C x ≡ 0
-    nothing x none b = omega arith
-    nothing x (some u) b = ap (λ (c : Bool). tick c * weightOf C x) (ne-eqb u t (λ e. omega arith)) ∙ omega arith
 
 -- the weight of a train in a minute is at most that of all choices
 pub weightAt-most : (C : Case) → Sound C → (m : ℕ) → Seen C m → (k t : ℕ) → weightAt C (joint C m .arrived) k t ≤ total C
