@@ -7,6 +7,7 @@ use Prim.Native.Nat.{ℕ}
 use Rattle.rules.specs.Refusals.{Result}
 use Rattle.rules.specs.Viewer.{viewed}
 use Rattle.rules.specs.Calls.{Memory, Lent, singleRun, runCall, listingCall, figuresCall}
+use Rattle.rules.specs.Plain.{LentWeights, plainCall, partCall}
 use Rattle.rules.specs.Answers as answers
 use Rattle.laying.specs.declared.Answer.{Answer}
 use Rattle.telling.specs.declared.TrainFigures.{TrainFigures}
@@ -50,6 +51,11 @@ pub record GivesText {A B : Type 0} (told : Result A → B) (call : Lent A) (a :
   pub two : Gives told call a rows weights
   pub text-is : text ≡ call .memory .text
 
+-- a call that is lent the weights alone: the answer is its result, and the weights are its memory
+pub record GivesWeights (call : LentWeights) (a : Answer) (weights : List ℕ) : Type 0 where
+  pub result : a ≡ answerOf (call .result)
+  pub weights-are : weights ≡ call .weights
+
 -- ---- what each exported function ensures: of its arguments and the memory before, the answer a and the memory after
 
 -- `lampreysong_single`
@@ -67,6 +73,14 @@ ListingGives cs bk rows weights text a rows′ weights′ text′ = GivesText an
 -- `lampreysong_figures`
 abbrev pub FiguresGives : List ℕ → List ℕ → ℕ → ℕ → List ℕ → List ℕ → TrainFigures → List ℕ → List ℕ → Type 0
 FiguresGives cs bk train limit rows weights a rows′ weights′ = Gives figuresOf (figuresCall cs bk train limit (lentTwo rows weights)) a rows′ weights′
+
+-- `lampreysong_plain`
+abbrev pub PlainGives : List ℕ → List ℕ → ℕ → List ℕ → Answer → List ℕ → Type 0
+PlainGives cs bk stop weights a weights′ = GivesWeights (plainCall cs bk stop weights) a weights′
+
+-- `lampreysong_plain_part`
+abbrev pub PartGives : List ℕ → List ℕ → ℕ → ℕ → ℕ → List ℕ → Answer → List ℕ → Type 0
+PartGives cs bk stop first most weights a weights′ = GivesWeights (partCall cs bk stop first most weights) a weights′
 
 -- `lampreysong_field`
 abbrev pub FieldGives : List ℕ → ℕ → Viewed → Type 0

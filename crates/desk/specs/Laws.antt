@@ -37,7 +37,7 @@ module _ (cs bk : List ℕ) where
   pub refused-files : {P : Case → Type 0} {R : Result Case} (r : Refusal) → files cs bk ≡ refused r → R ≡ refused r → Judged P R
   refused-files r e q = stopped r (told-fits r (files-told cs bk r e)) q
 
-  abbrev In : ℕ → Case → Type 0
+  abbrev pub In : ℕ → Case → Type 0
   In m C = m ≤ C .head .lastMinute
 
   judged-starts : {m : ℕ} {R : Result Case} → Judged (In m) R → Start cs bk m (filesOf R)
@@ -57,7 +57,7 @@ module _ (cs bk : List ℕ) where
 
   -- ---- the run to a stop minute
 
-  stop-judged : (m : ℕ) → Judged (In m) (forStop cs bk m)
+  pub stop-judged : (m : ℕ) → Judged (In m) (forStop cs bk m)
   unfolding forStop
   stop-judged m = go (files cs bk) refl
     where

@@ -3,9 +3,14 @@
 use file_fields::Field;
 use file_fields::refusals;
 use file_lookup::Files;
+use file_lookup::Sizes;
 use laying::Answer;
 use telling::TrainFigures;
-ghost use Rattle.desk.specs.Answers.{SingleGives, RunGives, ListingGives, FiguresGives, FieldGives};
+ghost use mathlib.Core.Path.{_≡_};
+ghost use lib.ListN.{replicate};
+ghost use Rattle.laying.specs.Steps.{Begins};
+ghost use Rattle.desk.specs.Answers.{SingleGives, RunGives, ListingGives, FiguresGives, PlainGives, PartGives, FieldGives};
+ghost use Rattle.desk.specs.Plain.{Ran};
 
 // What the field viewer gives at a place: `refusal` is 1 if a field runs past the end, `given` is 1 if there is a whole one.
 #[repr(C)]
@@ -121,6 +126,74 @@ pub extern "C" fn lampreysong_figures<'a>(
     }
     let z = telling::measure(&tables, &ws, train, limit);
     telling::train_figures(a, z)
+}
+
+// The choices of an accepted case numbered from `first` on, at most `most` of them, each run by itself to a stop minute: what they add, and how many they are.
+fn run_plain<'a>(
+    case: &'a [u8],
+    book: &'a [u8],
+    s: Sizes,
+    stop: u64,
+    first: u64,
+    most: u64,
+    ws: &mut [u64],
+) -> u64
+    requires { ⌜ Begins (now case) (now book) stop s × (now ws ≡ replicate 5760 0) ⌝ }
+    ensures { λ r. ⌜ Ran (now (case .entry)) (now (book .entry)) stop first most r (now (ws .exit)) ⌝ }
+{
+    let mut tables = [0u64; 2352];
+    file_plan::fill(case, book, s, &mut tables);
+    plain::add_part(&tables, stop, first, most, ws)
+}
+
+// Every choice by itself to a stop minute: the weights, and the number of choices run.
+#[no_mangle]
+pub extern "C" fn lampreysong_plain<'a>(
+    case: &'a [u8],
+    book: &'a [u8],
+    stop: u64,
+    weights: &mut [u8],
+) -> Answer
+    ensures { λ r. ⌜ PlainGives (now (case .entry)) (now (book .entry)) stop (now (weights .entry)) r (now (weights .exit)) ⌝ }
+{
+    if weights.len() < 40320 {
+        return laying::refused(refusals::TOO_SHORT, 0, 0);
+    }
+    let f = file_arguments::for_stop(case, book, stop as usize);
+    let Files::Sound(s) = f else {
+        out_images::clear(weights, 40320);
+        return laying::refused_files(f);
+    };
+    let mut ws = [0u64; 5760];
+    let n = run_plain(case, book, s, stop, 0, 18446744073709551615, &mut ws);
+    out_images::put_weights(&ws, weights);
+    laying::answered(n)
+}
+
+// The choices numbered from `first` on, at most `most` of them, added to the weights as they are lent; the number of choices run.
+#[no_mangle]
+pub extern "C" fn lampreysong_plain_part<'a>(
+    case: &'a [u8],
+    book: &'a [u8],
+    stop: u64,
+    first: u64,
+    most: u64,
+    weights: &mut [u8],
+) -> Answer
+    ensures { λ r. ⌜ PartGives (now (case .entry)) (now (book .entry)) stop first most (now (weights .entry)) r (now (weights .exit)) ⌝ }
+{
+    if weights.len() < 40320 {
+        return laying::refused(refusals::TOO_SHORT, 0, 0);
+    }
+    let f = file_arguments::for_stop(case, book, stop as usize);
+    let Files::Sound(s) = f else {
+        out_images::clear(weights, 40320);
+        return laying::refused_files(f);
+    };
+    let mut ws = [0u64; 5760];
+    let n = run_plain(case, book, s, stop, first, most, &mut ws);
+    out_images::add_weights(&ws, weights);
+    laying::answered(n)
 }
 
 // What the field viewer gives at a place of a file, and its place then: past the field, or the same if none was given.

@@ -1,4 +1,5 @@
--- The image of words that hold entries is the image of the entries, and the image of weights held in words is that of the weights.
+-- The image of words that hold entries is the image of the entries, and the image of weights held in words is that of the weights,
+-- also where they are added to those that stand in the bytes.
 -- A state gives its mark back, and a packed cover its sets, byte by byte. Assumes nothing.
 use mathlib.Core.Path.{_≡_, refl, sym, ap, ap₂, _∙_}
 use mathlib.Core.Bool.{Bool, cond}
@@ -10,16 +11,19 @@ use lib.ListN.{length, getD, take, replicate, length-take}
 use borrow.Author.Tests.{lt-ltb, le-ltb}
 use Rattle.rules.specs.Lists.{each, below}
 use Rattle.rules.specs.Files.{mostTrains}
-use Rattle.rules.specs.Joint.{Cover, Entry, weightAt}
-use Rattle.rules.specs.Calls.{bytes, setImage, coverImage, rowImage, Run, weightsImage}
+use Rattle.rules.specs.Joint.{Cover, Entry}
+use Rattle.rules.specs.Calls.{bytes, setImage, coverImage, rowImage, imageBy}
+use Rattle.rules.specs.Decoded.{weightIn}
+use Rattle.rules.specs.Plain.{capped}
 use Rattle.theory_lists.specs.Every.{Every}
 use Rattle.cut.specs.Packed.{packedIn, packed}
 use Rattle.cut.specs.Outside.{first-of, rest-of}
 use Rattle.theory_codes.specs.Codes.{stateOf}
 use Rattle.theory_codes.specs.States.{mark-state}
-use Rattle.theory_lists.specs.Below.{each-span-next, each-below-same}
-use Rattle.out_images.specs.Below.{each-blocks, each-take}
-use Rattle.out_images.specs.Rows.{rowOf, markBytes, setByte, coverBytes, rowBytes, imageOfRows, imageOfWords, SmallCover, SmallEntry, Held, Weighed}
+use Rattle.theory_lists.specs.Below.{each-span-next, each-below-same, each-blocks}
+use Rattle.out_images.specs.Below.{each-take}
+use Rattle.out_images.specs.Rows.{rowOf, markBytes, setByte, coverBytes, rowBytes, imageOfRows, SmallCover, SmallEntry, Held}
+use Rattle.out_images.specs.Rows.{imageOfWords, wordIn, imageOfSums, Weighs}
 
 -- ---- covers
 
@@ -95,10 +99,22 @@ rows-image n (r ∷ es) (a ∷ (b ∷ rows)) h =
 
 -- ---- weights
 
-pub weights-image : (u : Run) (ws : List ℕ) → Weighed (u .of) (u .state .arrived) ws → imageOfWords (take 5040 ws) ≡ weightsImage u
-unfolding imageOfWords weightsImage
-weights-image u ws h =
-    sym (each-take (bytes 8) ws 5040 (h .long))
-    ∙ each-blocks (λ i. bytes 8 (getD ws i 0)) mostTrains 720
-    ∙ each-below-same _ (λ k. each (λ t. bytes 8 (weightAt (u .of) (u .state .arrived) k t)) (below 720)) mostTrains
-    (λ k l. each-below-same _ (λ t. bytes 8 (weightAt (u .of) (u .state .arrived) k t)) 720 (λ t m. ap (bytes 8) (h .words k t l m)))
+-- words by their places, where that of train k in minute t has the place k · 720 + t
+words-image : (word : ℕ → ℕ) (weight : ℕ → ℕ → ℕ) → ((k t : ℕ) → k < mostTrains → t < 720 → word (k * 720 + t) ≡ weight k t)
+    → each (λ i. bytes 8 (word i)) (below 5040) ≡ imageBy weight
+words-image word weight h =
+    each-blocks (λ i. bytes 8 (word i)) mostTrains 720
+    ∙ each-below-same _ (λ k. each (λ t. bytes 8 (weight k t)) (below 720)) mostTrains
+    (λ k l. each-below-same _ (λ t. bytes 8 (weight k t)) 720 (λ t m. ap (bytes 8) (h k t l m)))
+
+pub weights-image : (weight : ℕ → ℕ → ℕ) (ws : List ℕ) → Weighs weight ws → imageOfWords (take 5040 ws) ≡ imageBy weight
+unfolding imageOfWords
+weights-image weight ws h =
+    sym (each-take (bytes 8) ws 5040 (h .long)) ∙ words-image (λ i. getD ws i 0) weight (h .words)
+
+-- the weights that stand in the bytes, each with its weight in the words
+pub sums-image : (weight : ℕ → ℕ → ℕ) (ws l : List ℕ) → Weighs weight ws → imageOfSums 5040 ws l ≡ imageBy (λ k t. capped (weightIn l k t + weight k t))
+unfolding imageOfSums weightIn
+sums-image weight ws l h =
+    words-image (λ i. capped (wordIn l i + getD ws i 0)) (λ k t. capped (weightIn l k t + weight k t))
+    (λ k t m n. ap (λ (w : ℕ). capped (wordIn l (k * 720 + t) + w)) (h .words k t m n))

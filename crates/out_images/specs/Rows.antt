@@ -1,15 +1,18 @@
--- A row as the runs hold it, a state and a packed cover, and its image. Assumes nothing: these are definitions.
+-- A row as the runs hold it, a state and a packed cover, and its image; weights in words, and the image of their sums with those that stand in bytes.
+-- Assumes nothing: these are definitions.
 use mathlib.Core.Path.{_≡_}
 use mathlib.Core.Bool.{cond}
 use mathlib.Core.List.{List, [], _∷_, _++_}
 use Prim.Native.Nat.{ℕ, _+_, _*_, _/_, _%_, _≤_, _<_}
-use lib.ListN.{length, getD, take}
+use lib.ListN.{length, getD, take, drop}
 use lib.Dec.{ltb}
 use Rattle.rules.specs.Lists.{each, below}
 use Rattle.rules.specs.Files.{Case, mostTrains}
 use Rattle.rules.specs.Turns.{kindOf, numberOf, Arrival}
 use Rattle.rules.specs.Joint.{Cover, Entry, weightAt}
 use Rattle.rules.specs.Calls.{bytes, setImage}
+use Rattle.rules.specs.Decoded.{numberIn}
+use Rattle.rules.specs.Plain.{capped}
 use Rattle.theory_lists.specs.Every.{Every}
 use Rattle.cut.specs.Packed.{packed}
 use Rattle.theory_codes.specs.Codes.{stateOf, markOf}
@@ -57,6 +60,14 @@ imageOfRows n m rows = each (λ i. rowBytes n (getD rows (i * 2) 0) (getD rows (
 unfoldable pub imageOfWords : List ℕ → List ℕ
 imageOfWords ws = each (bytes 8) ws
 
+-- the number in the eight bytes of word i
+abbrev pub wordIn : List ℕ → ℕ → ℕ
+wordIn l i = numberIn (take 8 (drop (i * 8) l))
+
+-- the image of n sums: the first n words that stand in the bytes l, each with its word of ws
+unfoldable pub imageOfSums : ℕ → List ℕ → List ℕ → List ℕ
+imageOfSums n ws l = each (λ i. bytes 8 (capped (wordIn l i + getD ws i 0))) (below n)
+
 -- ---- what an entry has to be for its words to tell it
 
 -- one set for each of n trains, at most eight, and a byte holds each
@@ -75,7 +86,11 @@ pub record Held (n : ℕ) (es : List Entry) (rows : List ℕ) : Type 0 where
   pub words : take (length es * 2) rows ≡ each rowOf es
   pub small : Every (SmallEntry n) es
 
--- the words are the weights of train k in minute t, at k · 720 + t, of the arrivals
-pub record Weighed (C : Case) (arrived : List (Arrival Entry)) (ws : List ℕ) : Type 0 where
+-- the words are the weights of train k in minute t, at k · 720 + t
+pub record Weighs (weight : ℕ → ℕ → ℕ) (ws : List ℕ) : Type 0 where
   pub long : 5040 ≤ length ws
-  pub words : (k t : ℕ) → k < mostTrains → t < 720 → getD ws (k * 720 + t) 0 ≡ weightAt C arrived k t
+  pub words : (k t : ℕ) → k < mostTrains → t < 720 → getD ws (k * 720 + t) 0 ≡ weight k t
+
+-- the words are the weights of the arrivals
+abbrev pub Weighed : Case → List (Arrival Entry) → List ℕ → Type 0
+Weighed C arrived ws = Weighs (weightAt C arrived) ws

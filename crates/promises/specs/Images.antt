@@ -14,14 +14,13 @@ use Rattle.rules.specs.Files.{mostTrains}
 use Rattle.rules.specs.Turns.{Place, kindOf, numberOf}
 use Rattle.rules.specs.Turns.Place.{outside, station, track, gone}
 use Rattle.rules.specs.Joint.{Cover, isEmpty, Entry, weightAt}
-use Rattle.rules.specs.Calls.{bytes, setImage, coverImage, rowImage, Run, weightsImage}
+use Rattle.rules.specs.Calls.{bytes, setImage, coverImage, rowImage, Run, imageBy, weightsImage}
 use Rattle.rules.specs.Decoded.{numberIn, delaysIn, coverIn, placeIn, entryIn, entriesIn, weightIn}
 use Rattle.theory_lists.specs.Every.{Every}
-use Rattle.theory_lists.specs.Below.{each-span-next, each-below-same}
+use Rattle.theory_lists.specs.Below.{each-span-next, each-below-same, length-parts, each-blocks}
 use Rattle.cut.specs.Packed.{Delays, Sets, Packable}
 use Rattle.cut.specs.Packed.Delays.{none, takes, skips}
 use Rattle.cut.specs.Sets.{image-delays, image-empty}
-use Rattle.out_images.specs.Below.{length-parts, each-blocks}
 
 -- ---- numbers
 
@@ -203,30 +202,25 @@ part-at f w h (suc n) (suc i) l rest =
     ∙ ap (λ (z : List ℕ). take w (drop (i * w) (z ++ rest))) (each-span-next f n 0)
     ∙ part-at (λ j. f (suc j)) w (λ j. h (suc j)) n i (omega arith) rest
 
--- the weights of a run in a word each
-abbrev pub Weighable : Run → Type 0
-Weighable u = (k t : ℕ) → weightAt (u .of) (u .state .arrived) k t < 256 ^ 8
+-- the image of weights has 7 by 720 of them, eight bytes each
+pub length-image : (w : ℕ → ℕ → ℕ) → length (imageBy w) ≡ 40320
+length-image w = length-parts (λ k. each (λ t. bytes 8 (w k t)) (below 720)) 5760 (λ k. length-parts (λ t. bytes 8 (w k t)) 8 (λ t. length-bytes 8 (w k t)) 720) mostTrains
 
-pub length-weights : (u : Run) → length (weightsImage u) ≡ 40320
-unfolding weightsImage
-length-weights u = length-parts train 5760 (λ k. length-parts (λ t. bytes 8 (weightAt (u .of) (u .state .arrived) k t)) 8 (λ t. length-bytes 8 (weightAt (u .of) (u .state .arrived) k t)) 720) mostTrains
-  where
-    train : ℕ → List ℕ
-    train k = each (λ t. bytes 8 (weightAt (u .of) (u .state .arrived) k t)) (below 720)
+-- weights that are alike have one image
+pub image-same : (v w : ℕ → ℕ → ℕ) → ((k t : ℕ) → k < mostTrains → t < 720 → v k t ≡ w k t) → imageBy v ≡ imageBy w
+image-same v w h =
+    each-below-same _ (λ k. each (λ t. bytes 8 (w k t)) (below 720)) mostTrains
+    (λ k l. each-below-same _ (λ t. bytes 8 (w k t)) 720 (λ t m. ap (bytes 8) (h k t l m)))
 
 -- each weight is read back from its place
-pub weight-in : (u : Run) → Weighable u → (k t : ℕ) → k < mostTrains → t < 720 → (rest : List ℕ)
-    → weightIn (weightsImage u ++ rest) k t ≡ weightAt (u .of) (u .state .arrived) k t
-unfolding weightIn weightsImage
-weight-in u h k t l m rest =
+pub image-in : (w : ℕ → ℕ → ℕ) → ((k t : ℕ) → w k t < 256 ^ 8) → (k t : ℕ) → k < mostTrains → t < 720 → (rest : List ℕ) → weightIn (imageBy w ++ rest) k t ≡ w k t
+unfolding weightIn
+image-in w h k t l m rest =
     ap (λ (z : List ℕ). numberIn (take 8 (drop ((k * 720 + t) * 8) (z ++ rest)))) (sym blocks)
     ∙ ap numberIn (part-at place 8 (λ i. length-bytes 8 (w (i / 720) (i % 720))) (mostTrains * 720) (k * 720 + t) (omega arith) rest)
     ∙ number-in 8 (w ((k * 720 + t) / 720) ((k * 720 + t) % 720)) (h ((k * 720 + t) / 720) ((k * 720 + t) % 720))
     ∙ ap₂ w (over k t m) (under k t m)
   where
-    w : ℕ → ℕ → ℕ
-    w k t = weightAt (u .of) (u .state .arrived) k t
-
     place : ℕ → List ℕ
     place i = bytes 8 (w (i / 720) (i % 720))
 
@@ -236,11 +230,23 @@ weight-in u h k t l m rest =
     under : (k t : ℕ) → t < 720 → (k * 720 + t) % 720 ≡ t
     under k t m = omega arith
 
-    blocks : each place (below (mostTrains * 720)) ≡ each (λ k. each (λ t. bytes 8 (w k t)) (below 720)) (below mostTrains)
+    blocks : each place (below (mostTrains * 720)) ≡ imageBy w
     blocks =
         each-blocks place mostTrains 720
-        ∙ each-below-same _ (λ k. each (λ t. bytes 8 (w k t)) (below 720)) mostTrains
-        (λ k l. each-below-same _ (λ t. bytes 8 (w k t)) 720 (λ t m. ap (bytes 8) (ap₂ w (over k t m) (under k t m))))
+        ∙ image-same (λ k t. w ((k * 720 + t) / 720) ((k * 720 + t) % 720)) w (λ k t l m. ap₂ w (over k t m) (under k t m))
+
+-- the weights of a run in a word each
+abbrev pub Weighable : Run → Type 0
+Weighable u = (k t : ℕ) → weightAt (u .of) (u .state .arrived) k t < 256 ^ 8
+
+pub length-weights : (u : Run) → length (weightsImage u) ≡ 40320
+unfolding weightsImage
+length-weights u = length-image (weightAt (u .of) (u .state .arrived))
+
+pub weight-in : (u : Run) → Weighable u → (k t : ℕ) → k < mostTrains → t < 720 → (rest : List ℕ)
+    → weightIn (weightsImage u ++ rest) k t ≡ weightAt (u .of) (u .state .arrived) k t
+unfolding weightsImage
+weight-in u h k t l m rest = image-in (weightAt (u .of) (u .state .arrived)) h k t l m rest
 
 pub weights-one : (u v : Run) → Weighable u → Weighable v → weightsImage u ≡ weightsImage v → (k t : ℕ) → k < mostTrains → t < 720
     → weightAt (u .of) (u .state .arrived) k t ≡ weightAt (v .of) (v .state .arrived) k t

@@ -5,3 +5,4 @@ pub mod Told
 pub mod Shown
 pub mod Outcomes
 pub mod Promises
+pub mod Plain

@@ -7,7 +7,7 @@ use lib.ListN.{length, getD}
 use lib.Seq.{sets}
 use borrow.Author.Needs.{needs}
 use Rattle.rules.specs.Calls.{bytes}
-use Rattle.out_images.proofs.Laws.{firstWords, words-more, words-filled, words-weighed}
+use Rattle.out_images.proofs.Laws.{firstWords, words-more, words-filled, words-weigh}
 use Rattle.out_images.proofs.put_weights.Statement.{statement}
 use Rattle.out_images.proofs.put_weights.Tie as tie
 
@@ -60,7 +60,7 @@ returns c =
     c .before .loop .inv .1
     ∙ ap (λ (i : ℕ). sets (a .out .now) 0 (firstWords i (a .weights .now))) n
     ∙ words-filled (a .weights .now) (a .out .now) (c .before .before .before .before .pre .0) (c .before .before .before .before .pre .1) in
-    (filled-words, λ u h. filled-words ∙ words-weighed u (a .weights .now) (a .out .now) h)
+    (filled-words, λ weight h. filled-words ∙ words-weigh weight (a .weights .now) (a .out .now) h)
 
 pub put-weights-spec : {M : Type 1} → statement M
 put-weights-spec =
