@@ -1,8 +1,9 @@
-//! The four calls of 01 with their order of refusals and the memory lent to them.
+//! The four calls of 01 and the two of the plain engine, with their order of refusals and the memory lent to them.
 
 use crate::figures::{figures as figures_of, Figures};
 use crate::joint::{self, Entry, JointRun};
 use crate::listing::listing as listing_of;
+use crate::plain as plain_engine;
 use crate::plan::Plan;
 use crate::refusal::{Refusal, CHOICE, MEMORY, NO_TRAIN, STOP};
 use crate::single as single_run;
@@ -46,10 +47,7 @@ pub fn run(
     weights: &mut [u64],
 ) -> Result<usize, Refusal> {
     clear(rows, weights)?;
-    let plan = Plan::read(case, book)?;
-    if stop > plan.head.last_minute as usize {
-        return Err(Refusal::of_call(STOP));
-    }
+    let plan = judge_stop(Plan::read(case, book)?, stop)?;
     let joint = joint::run(&plan, stop as u32).map_err(Refusal::of_call)?;
     fill(&joint, rows, weights);
     Ok(joint.list.len())
@@ -93,6 +91,48 @@ pub fn listing(
     let text = listing_of(&plan, &joint);
     bytes[..text.len()].copy_from_slice(&text);
     Ok(text.len())
+}
+
+/// The plain engine up to a stop minute: fills the weights and answers how many choices were run, which is all of them at every stop.
+pub fn plain(case: &[u8], book: &[u8], stop: usize, weights: &mut [u64]) -> Result<u64, Refusal> {
+    let plan = plain_plan(case, book, stop, weights)?;
+    weights[..WEIGHTS].fill(0);
+    let numbers = plain_engine::whole(&plan);
+    Ok(plain_engine::run(&plan, stop as u32, numbers, weights))
+}
+
+/// A part of it: runs the choices numbered from the first on, at most so many, adds to the weights as they are lent, and answers how many were run.
+pub fn plain_part(
+    case: &[u8],
+    book: &[u8],
+    stop: usize,
+    first: u64,
+    count: u64,
+    weights: &mut [u64],
+) -> Result<u64, Refusal> {
+    let plan = plain_plan(case, book, stop, weights)?;
+    let numbers = plain_engine::part(&plan, first, count);
+    Ok(plain_engine::run(&plan, stop as u32, numbers, weights))
+}
+
+/// What the plain engine runs, whole or in part, or its refusal: 14, which writes nothing; then the files' and 17, which set the required weights to zero.
+fn plain_plan(case: &[u8], book: &[u8], stop: usize, weights: &mut [u64]) -> Result<Plan, Refusal> {
+    if weights.len() < WEIGHTS {
+        return Err(Refusal::of_call(MEMORY));
+    }
+    let plan = Plan::read(case, book).and_then(|plan| judge_stop(plan, stop));
+    if plan.is_err() {
+        weights[..WEIGHTS].fill(0);
+    }
+    plan
+}
+
+/// Refusal 17: the stop minute is above the last minute.
+fn judge_stop(plan: Plan, stop: usize) -> Result<Plan, Refusal> {
+    match stop > plan.head.last_minute as usize {
+        true => Err(Refusal::of_call(STOP)),
+        false => Ok(plan),
+    }
 }
 
 /// Refusal 14 if rows or weights are too few, which writes nothing; else their required part is set to zero.

@@ -7,6 +7,7 @@ pub mod enumeration;
 pub mod figures;
 pub mod joint;
 pub mod listing;
+pub mod plain;
 pub mod plan;
 pub mod reader;
 pub mod refusal;

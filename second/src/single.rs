@@ -43,6 +43,16 @@ pub fn run(plan: &Plan, choice: &[u8]) -> SingleRun {
     SingleRun { after, arrivals }
 }
 
+/// Each train's minute of arrival in the run of one choice up to and including a stop minute.
+pub fn arrivals_by(plan: &Plan, choice: &[u8], stop: u32) -> Vec<Option<u32>> {
+    let mut state = start(plan, choice);
+    let mut arrivals = vec![None; plan.trains()];
+    for t in 0..=stop {
+        visit(plan, &mut state, t, &mut arrivals);
+    }
+    arrivals
+}
+
 /// At the start each train waits outside, due at its first arrival plus its delay.
 fn start(plan: &Plan, choice: &[u8]) -> State {
     let waiting = |train: usize| Standing {

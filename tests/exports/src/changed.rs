@@ -4,6 +4,7 @@
 //! `#` what is changed, `v` the title of the vector, `-` its lines that go, `+` those that take their place, `x-` and `x+` titles that are no longer excepted
 //! and that are, and `?` how that begins which is found.
 
+use crate::said::Heard;
 use crate::tally::Tally;
 use crate::vectors::found;
 
@@ -21,9 +22,11 @@ struct Change {
 
 /// Makes each change of a file, one at a time, in the vectors and the exceptions.
 pub fn changed(vectors: &str, exceptions: &str, changes: &str, tally: &mut Tally) {
+    let mut heard = Heard::default();
     for text in changes.trim_end().split("\n\n") {
         let change = read(text);
-        let wrong = found(&replaced(vectors, &change), &excepted(exceptions, &change));
+        let (vectors, exceptions) = (replaced(vectors, &change), excepted(exceptions, &change));
+        let wrong = found(&vectors, &exceptions, &mut heard);
         let wrong: Vec<String> = wrong.into_iter().flatten().collect();
         let alone = wrong.len() == 1 && wrong[0].starts_with(&change.found);
         tally.expect(alone, || format!("{}: found: {wrong:?}", change.what));

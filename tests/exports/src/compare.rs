@@ -1,8 +1,9 @@
 //! Compares the exports with the second program: each answer, and every byte of lent memory.
 
-use crate::called::{bits, Exports};
+use crate::called::{bits, Exports, Part};
 use crate::fields::differing_place;
-use crate::memory::Lent;
+use crate::memory::{weights_image, Lent};
+use crate::same::same_weights;
 use crate::tally::Tally;
 use exports::{Answer, TrainFigures, ALWAYS, NEVER, NONE, SHARE};
 use inputs::answers::{self, answer, Value};
@@ -23,6 +24,11 @@ pub fn compare(exports: &dyn Exports, asked: &[Asked], tally: &mut Tally) {
             let agrees = agrees(exports, files, question, pattern);
             tally.expect(agrees, || differs(files, question));
         }
+        if let Some(same) = same_weights(exports, files, questions) {
+            tally.expect(same, || {
+                format!("the plain engine has other weights: {files:?}")
+            });
+        }
         for file in [&files.case, &files.book] {
             let differing = differing_place(exports, file);
             tally.expect(differing.is_none(), || {
@@ -41,7 +47,7 @@ fn differs(files: &Files, question: &Question) -> String {
 /// Whether an exported call answers a question as the second program does, and leaves the same memory.
 pub fn agrees(exports: &dyn Exports, files: &Files, question: &Question, pattern: u8) -> bool {
     let expected = answer(files, question);
-    let mut lent = Lent::new(question.lent, pattern);
+    let mut lent = lent_to(question, pattern);
     let same = match &question.call {
         Call::Single { choice, train } => {
             exports.single(files, choice, *train as u64) == expected_answer(&expected)
@@ -54,8 +60,30 @@ pub fn agrees(exports: &dyn Exports, files: &Files, question: &Question, pattern
             let figures = exports.figures(files, *train as u64, *limit, &mut lent);
             bits(&figures) == bits(&expected_figures(&expected))
         }
+        Call::Plain { stop } => {
+            exports.plain(files, *stop as u64, &mut lent) == expected_answer(&expected)
+        }
+        Call::Part {
+            stop, first, count, ..
+        } => {
+            let part = Part {
+                stop: *stop as u64,
+                first: *first,
+                count: *count,
+            };
+            exports.part(files, part, &mut lent) == expected_answer(&expected)
+        }
     };
     same && lent_holds(question, &expected, &lent)
+}
+
+/// Memory of a pattern as it is lent; to a part the weights that it adds to.
+fn lent_to(question: &Question, pattern: u8) -> Lent {
+    let lent = Lent::new(question.lent, pattern);
+    match question.call {
+        Call::Part { before, .. } => lent.with_weights(before),
+        _ => lent,
+    }
 }
 
 /// Whether each memory holds what the second program left in its own; refusal 14 leaves all as it was.
@@ -72,10 +100,7 @@ fn lent_holds(question: &Question, expected: &answers::Answer, lent: &Lent) -> b
 fn image(expected: &answers::Answer, memory: Memory) -> Vec<u8> {
     let mut bytes: Vec<u8> = match memory {
         Memory::Rows => expected.rows.iter().flat_map(row_image).collect(),
-        Memory::Weights => {
-            let weights = expected.weights.iter();
-            weights.flat_map(|weight| weight.to_be_bytes()).collect()
-        }
+        Memory::Weights => weights_image(&expected.weights),
         Memory::Text => expected.text.clone(),
     };
     bytes.truncate(memory.required());
@@ -112,6 +137,7 @@ fn expected_answer(expected: &answers::Answer) -> Answer {
     match expected.value {
         Ok(Value::Arrival(minute)) => answered(minute.map_or(NONE, u64::from)),
         Ok(Value::Length(length)) => answered(length as u64),
+        Ok(Value::Choices(count)) => answered(count),
         Ok(Value::Figures(_)) => unreachable!("no answer of figures"),
         Err(refusal) => refused(&refusal),
     }

@@ -32,7 +32,7 @@ pub fn the_example(tally: &mut Tally) {
 }
 
 /// What is checked, and whether it holds.
-type Checks = Vec<(&'static str, bool)>;
+pub type Checks = Vec<(&'static str, bool)>;
 
 /// The offset of each field of a struct.
 macro_rules! offsets {

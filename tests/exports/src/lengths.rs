@@ -1,11 +1,12 @@
 //! Lent memory of every length: too short it stays as it was, and of longer memory only the required part changes.
 
-use crate::called::{Exports, Linked};
+use crate::called::{Exports, Linked, Part};
 use crate::example::shift;
 use crate::memory::Lent;
 use crate::refusals::{refusal, refusal_of};
 use crate::tally::Tally;
 use inputs::generator::Files;
+use inputs::parts::Before;
 use inputs::questions::{Call, Memory, MEMORIES};
 use second::refusal::{COUNT, MEMORY, NO_TRAIN, ROOM, STOP};
 
@@ -50,6 +51,13 @@ fn cases() -> Vec<Case> {
         || shift(|case| case[6..8].copy_from_slice(&[0, 8])),
     );
     let whole = || shift(|_| {});
+    let plain = |stop| Call::Plain { stop };
+    let part = |stop| Call::Part {
+        stop,
+        first: 0,
+        count: 4,
+        before: Before::All(0),
+    };
     vec![
         case("run: answered", whole(), run.clone(), 0),
         case("run: refused 5", empty(), run.clone(), COUNT),
@@ -67,12 +75,20 @@ fn cases() -> Vec<Case> {
             NO_TRAIN,
         ),
         case("figures: refused 12", small(), figures, ROOM),
+        case("plain: answered", whole(), plain(20), 0),
+        case("plain: answered without room", small(), plain(20), 0),
+        case("plain: refused 5", empty(), plain(20), COUNT),
+        case("plain: refused 17", whole(), plain(21), STOP),
+        case("part: answered", whole(), part(20), 0),
+        case("part: answered without room", small(), part(20), 0),
+        case("part: refused 5", empty(), part(20), COUNT),
+        case("part: refused 17", whole(), part(21), STOP),
     ]
 }
 
 /// Whether a call is refused 14 for each length of a memory that is too short, and has changed no byte after all of them.
 fn too_short(case: &Case, memory: Memory) -> bool {
-    let mut lent = Lent::exact();
+    let mut lent = lent_to(case, Lent::exact());
     let mut lengths = 0..memory.required();
     let refused = lengths.all(|length| {
         lent.shorten(memory, length);
@@ -85,12 +101,20 @@ fn too_short(case: &Case, memory: Memory) -> bool {
 fn enough(case: &Case, memory: Memory, more: usize) -> bool {
     let mut lengths = MEMORIES.map(Memory::required);
     lengths[memory as usize] += more;
-    let mut lent = Lent::new(lengths, 0x3C);
+    let mut lent = lent_to(case, Lent::new(lengths, 0x3C));
     let refusal = ask(case, &mut lent);
     let memories = case.call.memories();
     match case.refusal {
         0 => refusal == Some(0) && filled(&lent, memories),
         number => refusal == Some(number.into()) && lent.zero(memories),
+    }
+}
+
+/// Memory as it is lent to the call: a part adds to its weights.
+fn lent_to(case: &Case, lent: Lent) -> Lent {
+    match case.call {
+        Call::Part { before, .. } => lent.with_weights(before),
+        _ => lent,
     }
 }
 
@@ -104,6 +128,13 @@ fn ask(case: &Case, lent: &mut Lent) -> Option<u16> {
         call => {
             let answer = match call {
                 Call::Run { stop } => Linked.run(&case.files, *stop as u64, lent),
+                Call::Plain { stop } => Linked.plain(&case.files, *stop as u64, lent),
+                Call::Part {
+                    stop, first, count, ..
+                } => {
+                    let (stop, first, count) = (*stop as u64, *first, *count);
+                    Linked.part(&case.files, Part { stop, first, count }, lent)
+                }
                 _ => Linked.listing(&case.files, lent),
             };
             (answer.refusal == 0, refusal(answer))
@@ -115,8 +146,8 @@ fn ask(case: &Case, lent: &mut Lent) -> Option<u16> {
     }
 }
 
-/// Whether the memories hold what the listing leaves in memory that is just enough, as the run to the last minute and the figures do, and no other
-/// byte has changed.
+/// Whether the memories hold what the listing leaves in memory that is just enough, as the run to the last minute, the figures and the plain engine do, and
+/// no other byte has changed.
 fn filled(lent: &Lent, memories: &[Memory]) -> bool {
     let mut exact = Lent::exact();
     Linked.listing(&shift(|_| {}), &mut exact);

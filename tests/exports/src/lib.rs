@@ -8,7 +8,7 @@ pub const TEXT: usize = 32_768;
 /// The single run's answer for a train that does not arrive by the last minute.
 pub const NONE: u64 = 65_535;
 
-/// What the single run, the run and the listing answer.
+/// What the single run, the run, the listing and the plain engine answer.
 #[repr(C)]
 #[derive(Clone, Copy, Debug, Default, PartialEq, Eq)]
 pub struct Answer {
@@ -105,6 +105,28 @@ mod linked {
             weights_length: usize,
         ) -> TrainFigures;
 
+        pub fn lampreysong_plain(
+            case: *const u8,
+            case_length: usize,
+            book: *const u8,
+            book_length: usize,
+            stop: u64,
+            weights: *mut u8,
+            weights_length: usize,
+        ) -> Answer;
+
+        pub fn lampreysong_plain_part(
+            case: *const u8,
+            case_length: usize,
+            book: *const u8,
+            book_length: usize,
+            stop: u64,
+            first: u64,
+            count: u64,
+            weights: *mut u8,
+            weights_length: usize,
+        ) -> Answer;
+
         pub fn lampreysong_field(file: *const u8, length: usize, place: u64) -> Viewed;
     }
 }
@@ -188,6 +210,47 @@ pub fn figures(
             limit,
             rows.as_mut_ptr(),
             rows.len(),
+            weights.as_mut_ptr(),
+            weights.len(),
+        )
+    }
+}
+
+/// The plain engine to a stop minute: weights, and the number of choices run.
+pub fn plain(case: &[u8], book: &[u8], stop: u64, weights: &mut [u8]) -> Answer {
+    // SAFETY: each pointer comes with the length of its own slice; the lent slice shares no byte with any other, and all outlive the call.
+    unsafe {
+        linked::lampreysong_plain(
+            case.as_ptr(),
+            case.len(),
+            book.as_ptr(),
+            book.len(),
+            stop,
+            weights.as_mut_ptr(),
+            weights.len(),
+        )
+    }
+}
+
+/// The choices numbered from the first on, at most so many, by the plain engine, added to the weights as they are lent, and the number of choices run.
+pub fn plain_part(
+    case: &[u8],
+    book: &[u8],
+    stop: u64,
+    first: u64,
+    count: u64,
+    weights: &mut [u8],
+) -> Answer {
+    // SAFETY: each pointer comes with the length of its own slice; the lent slice shares no byte with any other, and all outlive the call.
+    unsafe {
+        linked::lampreysong_plain_part(
+            case.as_ptr(),
+            case.len(),
+            book.as_ptr(),
+            book.len(),
+            stop,
+            first,
+            count,
             weights.as_mut_ptr(),
             weights.len(),
         )

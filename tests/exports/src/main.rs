@@ -1,5 +1,5 @@
 //! The program `exports`: calls the exported functions from Rust. Its last line is 'N passed, M failed'.
-//! `exports calls`: memory of every length, every refusal, the shift example and the layout of the answers.
+//! `exports calls`: memory of every length, every refusal, the shift example, by the plain engine too, and the layout of the answers.
 //! `exports fixed FILE`: compares them with the second program on the fixed inputs, and with the vectors worked out by hand in FILE.
 //! `exports seeds SEED [COUNT]`: compares them on the inputs drawn from COUNT seeds, or for ever; a difference ends it and is printed with its seed.
 //! `exports spoiled`: shows that the comparison catches exports that are spoiled in one way after another.
@@ -13,8 +13,10 @@ mod example;
 mod fields;
 mod lengths;
 mod memory;
+mod plain;
 mod refusals;
 mod said;
+mod same;
 mod spoiled;
 mod tally;
 mod vectors;
@@ -25,7 +27,9 @@ use fields::differing_place;
 use inputs::drawn::COUNTED_SEEDS;
 use inputs::questions::{fixed, of_seed, Asked, Question};
 use inputs::vectors::{asked, reading, vector};
-use spoiled::{Spoiled, WAYS};
+use said::Heard;
+use same::same_weights;
+use spoiled::{Spoiled, BESIDE_THE_RUN, WAYS};
 use std::process::ExitCode;
 use tally::Tally;
 
@@ -63,6 +67,7 @@ fn usage() -> ExitCode {
 fn calls() -> ExitCode {
     let mut tally = Tally::default();
     example::the_example(&mut tally);
+    plain::the_plain_engine(&mut tally);
     refusals::every_refusal(&mut tally);
     lengths::every_length(&mut tally);
     tally.close()
@@ -132,13 +137,22 @@ fn spoiled_exports() -> ExitCode {
         };
         tally.expect(inputs.iter().any(caught), || format!("not caught: {way}"));
     }
+    for way in BESIDE_THE_RUN {
+        let caught = |Asked { files, questions }: &Asked| {
+            same_weights(&Spoiled(way), files, questions) == Some(false)
+        };
+        tally.expect(inputs.iter().any(caught), || {
+            format!("not caught beside the run: {way}")
+        });
+    }
     tally.close()
 }
 
 /// The vectors of a stage, and the exceptions among them.
 fn vectors_of_a_stage(file: &str, exceptions: &str) -> ExitCode {
     let mut tally = Tally::default();
-    for wrong in vectors::found(&text(file), &text(exceptions)) {
+    let mut heard = Heard::default();
+    for wrong in vectors::found(&text(file), &text(exceptions), &mut heard) {
         tally.expect(wrong.is_none(), || wrong.unwrap_or_default());
     }
     tally.close()

@@ -1,6 +1,7 @@
-//! Lent memory that is watched: it stands at an odd address amid bytes of a pattern, and is filled with the pattern itself.
+//! Lent memory that is watched: it stands at an odd address amid bytes of a pattern, and is filled with the pattern itself, or for a part with weights.
 
-use inputs::questions::{Memory, MEMORIES};
+use inputs::parts::Before;
+use inputs::questions::{Memory, MEMORIES, WEIGHT_BYTES};
 
 /// Bytes that are watched before the memory, and after its required part.
 const BEFORE: usize = 33;
@@ -9,6 +10,8 @@ const AFTER: usize = 96;
 /// One memory of which so many bytes are lent.
 pub struct Watched {
     bytes: Vec<u8>,
+    /// The required part as it was before the call, if it was not of the pattern.
+    filled: Option<Vec<u8>>,
     required: usize,
     lent: usize,
     pattern: u8,
@@ -20,10 +23,17 @@ impl Watched {
         assert!(lent < required + AFTER);
         Watched {
             bytes: vec![pattern; BEFORE + required + AFTER],
+            filled: None,
             required,
             lent,
             pattern,
         }
+    }
+
+    /// Fills the required part with an image of this length.
+    fn fill(&mut self, image: Vec<u8>) {
+        self.bytes[BEFORE..BEFORE + self.required].copy_from_slice(&image);
+        self.filled = Some(image);
     }
 
     /// The bytes that a call is lent.
@@ -44,7 +54,10 @@ impl Watched {
 
     /// Whether no byte has changed.
     pub fn untouched(&self) -> bool {
-        self.all_pattern(&self.bytes)
+        match &self.filled {
+            None => self.all_pattern(&self.bytes),
+            Some(image) => self.holds(image),
+        }
     }
 
     /// Whether the required part has this image and then zeros, and no byte before or past it has changed.
@@ -84,6 +97,13 @@ impl Lent {
         Lent::new(MEMORIES.map(Memory::required), 0xA5)
     }
 
+    /// The same, with the weights filled as they are to be lent to a part.
+    pub fn with_weights(mut self, before: Before) -> Lent {
+        let weights = before.weights(Memory::Weights.required() / WEIGHT_BYTES);
+        self.weights.fill(weights_image(&weights));
+        self
+    }
+
     /// Lends only so many bytes of a memory.
     pub fn shorten(&mut self, memory: Memory, length: usize) {
         let of = match memory {
@@ -115,4 +135,10 @@ impl Lent {
         };
         MEMORIES.iter().all(fits)
     }
+}
+
+/// Weights as docs/FORMATS.md has them.
+pub fn weights_image(weights: &[u64]) -> Vec<u8> {
+    let bytes = weights.iter().map(|weight| weight.to_be_bytes());
+    bytes.flatten().collect()
 }

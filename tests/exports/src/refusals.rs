@@ -4,6 +4,7 @@ use crate::called::{bits, Exports, Linked};
 use crate::compare::figures_refused;
 use crate::example::shift;
 use crate::memory::Lent;
+use crate::plain::plain_refuses;
 use crate::tally::Tally;
 use exports::{Answer, TrainFigures};
 use inputs::generator::Files;
@@ -190,6 +191,7 @@ fn all_refuse(files: &Files, (refusal, file, place): Refused) -> bool {
         && listing.zero(&MEMORIES)
         && bits(&of_figures) == bits(&figures_refused(&refused))
         && figures.zero(&TWO)
+        && plain_refuses(files, refused)
 }
 
 /// Refusals of the arguments and of the run, which have file and place 0, and the order in which they come.
@@ -247,7 +249,7 @@ pub fn refusal_of(figures: &TrainFigures) -> Option<u16> {
 }
 
 /// The refusal of a run that has set its memory to zero.
-fn run(files: &Files, stop: u64) -> Option<u16> {
+pub fn run(files: &Files, stop: u64) -> Option<u16> {
     let mut lent = Lent::exact();
     let number = refusal(Linked.run(files, stop, &mut lent));
     number.filter(|_| lent.zero(&TWO))

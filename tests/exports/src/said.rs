@@ -9,9 +9,25 @@ use exports::{Answer, TrainFigures, ALWAYS, NEVER, NONE, SHARE};
 use inputs::generator::Files;
 use inputs::questions::{Call, ROW_BYTES};
 use second::calls::{MINUTES, WEIGHTS};
+use std::collections::BTreeMap;
+
+/// What the exports have answered; nothing is kept between calls, so no question has to be put twice.
+#[derive(Default)]
+pub struct Heard {
+    answers: BTreeMap<(Files, Call), String>,
+}
+
+impl Heard {
+    /// The answer of a call, which is put to the exports unless it was before.
+    pub fn said(&mut self, files: &Files, call: &Call) -> &str {
+        let question = (files.clone(), call.clone());
+        let answers = self.answers.entry(question);
+        answers.or_insert_with(|| said(files, call))
+    }
+}
 
 /// The answer of a call that is lent just what it needs.
-pub fn said(files: &Files, call: &Call) -> String {
+fn said(files: &Files, call: &Call) -> String {
     let mut lent = Lent::exact();
     let told = match call {
         Call::Single { choice, train } => {
@@ -29,6 +45,13 @@ pub fn said(files: &Files, call: &Call) -> String {
         Call::Figures { train, limit } => {
             figures(&Linked.figures(files, *train as u64, *limit, &mut lent))
         }
+        Call::Plain { stop } => {
+            let answer = Linked.plain(files, *stop as u64, &mut lent);
+            told(answer, |count| {
+                Some(format!("choices {count}\n{}", arrivals(&lent)))
+            })
+        }
+        Call::Part { .. } => unreachable!("no vector has a part"),
     };
     told.unwrap_or_else(|| "bytes that stand for no answer\n".to_string())
 }
@@ -75,19 +98,23 @@ fn listing(lent: &Lent, length: u64) -> Option<String> {
     String::from_utf8(text.to_vec()).ok().filter(|_| nothing)
 }
 
-/// The entries in list order, the list's length, and the arrivals by train, then minute.
+/// The entries in list order, the list's length, and the arrivals.
 fn list_and_arrivals(lent: &Lent, length: u64) -> Option<String> {
     let (rows, unused) = split(lent.rows.part(), length as usize * ROW_BYTES)?;
     let rows: Option<String> = rows.chunks(ROW_BYTES).map(entry).collect();
     let nothing = unused.iter().all(|byte| *byte == 0);
+    rows.filter(|_| nothing)
+        .map(|rows| format!("{rows}length {length}\n{}", arrivals(lent)))
+}
+
+/// The arrivals by train, then minute, without weights of 0.
+fn arrivals(lent: &Lent) -> String {
     let minutes = (0..WEIGHTS).map(|at| (at / MINUTES, at % MINUTES));
     let arrivals = minutes.map(|(train, minute)| (train, minute, weight(lent, train, minute)));
-    let arrivals: String = arrivals
+    arrivals
         .filter(|(_, _, weight)| *weight > 0)
         .map(|(train, minute, weight)| format!("arrived {train} {minute} {weight}\n"))
-        .collect();
-    rows.filter(|_| nothing)
-        .map(|rows| format!("{rows}length {length}\n{arrivals}"))
+        .collect()
 }
 
 /// An entry of a row: train, place, kind, minute, and a set for each train, none of which is empty.

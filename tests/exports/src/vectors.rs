@@ -3,13 +3,13 @@
 //! A file of vectors is text, one thing a line; the first character says what stands in the line, and a space follows it.
 //! `v COMMAND NAME`: a vector starts, and ends where the next one does. Its title, command and name, is its own.
 //! `i HEX`: an input, the case and then the book; `-` is the empty file.
-//! `a N N ..`: the arguments, decimal; of `run` the stop minute, of `single` the train and the choice, of `figures` the train and the limit.
+//! `a N N ..`: the arguments, decimal; of `run` and `plain` the stop minute, of `single` the train and the choice, of `figures` the train and the limit.
 //! `o TEXT`: a line of the answer.
 //! `# TEXT`: a remark.
 //!
 //! A file of exceptions has the titles, one a line, of vectors that are held to be wrong, and remarks, which say why. They have to be answered otherwise.
 
-use crate::said::said;
+use crate::said::Heard;
 use inputs::generator::Files;
 use inputs::questions::Call;
 use std::collections::BTreeSet;
@@ -30,15 +30,15 @@ struct Draft {
     answer: String,
 }
 
-/// Puts each vector to the exports. For each, and last for the exceptions together, it gives what is wrong, if anything is; of files that are malformed
+/// Puts each vector to the exports, unless its question was heard. For each, and last for the exceptions together, it gives what is wrong, if anything is; of files that are malformed
 /// only that.
-pub fn found(vectors: &str, exceptions: &str) -> Vec<Option<String>> {
+pub fn found(vectors: &str, exceptions: &str, heard: &mut Heard) -> Vec<Option<String>> {
     let (vectors, exceptions) = match (read(vectors), read_exceptions(exceptions)) {
         (Ok(vectors), Ok(exceptions)) => (vectors, exceptions),
         (Err(wrong), _) | (_, Err(wrong)) => return vec![Some(wrong)],
     };
     let excepted = |vector: &Vector| exceptions.contains(&vector.title);
-    let wrong = |vector| wrong_with(vector, excepted(vector));
+    let wrong = |vector| wrong_with(vector, excepted(vector), heard);
     let mut found: Vec<Option<String>> = vectors.iter().map(wrong).collect();
     let titles: BTreeSet<&String> = vectors.iter().map(|vector| &vector.title).collect();
     let unknown = exceptions.iter().find(|title| !titles.contains(title));
@@ -47,11 +47,11 @@ pub fn found(vectors: &str, exceptions: &str) -> Vec<Option<String>> {
 }
 
 /// What is wrong with a vector: that another answer is given, or that it is an exception for no reason.
-fn wrong_with(vector: &Vector, excepted: bool) -> Option<String> {
+fn wrong_with(vector: &Vector, excepted: bool, heard: &mut Heard) -> Option<String> {
     let Vector { title, answer, .. } = vector;
-    let said = said(&vector.files, &vector.call);
+    let said = heard.said(&vector.files, &vector.call);
     match excepted {
-        false => differs(title, answer, &said),
+        false => differs(title, answer, said),
         true if said == *answer => Some(format!("{title}: excepted, and it holds")),
         true => None,
     }
@@ -159,6 +159,7 @@ fn vector(draft: Draft) -> Option<Vector> {
             train: *train,
             limit: u16::try_from(*limit).ok()?,
         },
+        ("plain", [stop]) => Call::Plain { stop: *stop },
         _ => return None,
     };
     let [case, book] = <[Vec<u8>; 2]>::try_from(draft.inputs).ok()?;

@@ -2,16 +2,19 @@
 
 use crate::generator::Files;
 use crate::questions::{Call, Memory, Question, ROW_BYTES, WEIGHT_BYTES};
-use second::calls::{figures, listing, run, single, Row, LISTING, ROWS, WEIGHTS};
+use second::calls::{
+    figures, listing, plain, plain_part, run, single, Row, LISTING, ROWS, WEIGHTS,
+};
 use second::figures::Figures;
 use second::refusal::Refusal;
 
-/// What an answered call says: a minute of arrival, the number of entries or of bytes, or figures.
+/// What an answered call says: a minute of arrival, the number of entries or of bytes, figures, or the number of choices run.
 #[derive(Clone, Copy, Debug, PartialEq)]
 pub enum Value {
     Arrival(Option<u32>),
     Length(usize),
     Figures(Figures),
+    Choices(u64),
 }
 
 /// A call's answer, and the memory that it was lent.
@@ -26,7 +29,8 @@ pub struct Answer {
 pub fn answer(files: &Files, question: &Question) -> Answer {
     let lent = |memory: Memory| question.lent[memory as usize];
     let mut rows = vec![None; lent(Memory::Rows) / ROW_BYTES];
-    let mut weights = vec![0; lent(Memory::Weights) / WEIGHT_BYTES];
+    let before = question.call.before();
+    let mut weights = before.weights(lent(Memory::Weights) / WEIGHT_BYTES);
     let mut text = vec![0; lent(Memory::Text)];
     let Files { case, book } = files;
     let value = match &question.call {
@@ -36,6 +40,10 @@ pub fn answer(files: &Files, question: &Question) -> Answer {
         Call::Figures { train, limit } => {
             figures(case, book, *train, *limit, &mut rows, &mut weights).map(Value::Figures)
         }
+        Call::Plain { stop } => plain(case, book, *stop, &mut weights).map(Value::Choices),
+        Call::Part {
+            stop, first, count, ..
+        } => plain_part(case, book, *stop, *first, *count, &mut weights).map(Value::Choices),
     };
     Answer {
         value,

@@ -61,7 +61,7 @@ pub struct Size {
 }
 
 /// The bytes of a case and its book.
-#[derive(Clone, Debug, PartialEq, Eq)]
+#[derive(Clone, Debug, PartialEq, Eq, PartialOrd, Ord)]
 pub struct Files {
     pub case: Vec<u8>,
     pub book: Vec<u8>,

@@ -10,6 +10,7 @@ pub mod faulty;
 pub mod generator;
 pub mod made;
 pub mod meeting;
+pub mod parts;
 pub mod questions;
 pub mod sweeps;
 pub mod trace;

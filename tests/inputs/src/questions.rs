@@ -3,15 +3,33 @@
 use crate::drawn::{drawn, COUNTED_SEEDS, FIXED_SEEDS};
 use crate::generator::{Chance, Files};
 use crate::made::made;
+use crate::parts::{self, Before};
 use second::plan::Plan;
 
-/// A call of 01 with its arguments.
-#[derive(Clone, Debug, PartialEq, Eq)]
+/// A call of 01 or of the plain engine with its arguments; to a part belongs what the weights hold when they are lent.
+#[derive(Clone, Debug, PartialEq, Eq, PartialOrd, Ord)]
 pub enum Call {
-    Single { choice: Vec<u8>, train: usize },
-    Run { stop: usize },
+    Single {
+        choice: Vec<u8>,
+        train: usize,
+    },
+    Run {
+        stop: usize,
+    },
     Listing,
-    Figures { train: usize, limit: u16 },
+    Figures {
+        train: usize,
+        limit: u16,
+    },
+    Plain {
+        stop: usize,
+    },
+    Part {
+        stop: usize,
+        first: u64,
+        count: u64,
+        before: Before,
+    },
 }
 
 /// What a call is lent.
@@ -47,6 +65,15 @@ impl Call {
             Call::Single { .. } => &[],
             Call::Run { .. } | Call::Figures { .. } => &[Memory::Rows, Memory::Weights],
             Call::Listing => &MEMORIES,
+            Call::Plain { .. } | Call::Part { .. } => &[Memory::Weights],
+        }
+    }
+
+    /// What the weights hold when they are lent; only a part adds to it.
+    pub fn before(&self) -> Before {
+        match self {
+            Call::Part { before, .. } => *before,
+            _ => Before::All(0),
         }
     }
 
@@ -57,6 +84,8 @@ impl Call {
             Call::Run { .. } => "run",
             Call::Listing => "listing",
             Call::Figures { .. } => "figures",
+            Call::Plain { .. } => "plain",
+            Call::Part { .. } => "part",
         }
     }
 }
@@ -88,8 +117,10 @@ pub struct Asked {
     pub questions: Vec<Question>,
 }
 
-/// The calls on which definitions are compared with the second program.
+/// The calls on which definitions are compared with the second program; the plain engine's are drawn apart, so that the others are as they were before there
+/// was one.
 pub fn few(chance: &mut Chance, plan: &Plan) -> Vec<Call> {
+    let mut apart = chance.apart();
     let mut calls: Vec<Call> = (0..4).map(|_| draw_single(chance, plan)).collect();
     let last_minute = plan.head.last_minute as usize;
     let past = usize::from(chance.percent(10));
@@ -98,21 +129,38 @@ pub fn few(chance: &mut Chance, plan: &Plan) -> Vec<Call> {
     }
     calls.push(Call::Listing);
     calls.extend((0..2).map(|_| draw_figures(chance, plan)));
+    calls.extend(parts::few(&mut apart, plan));
     calls
 }
 
-/// The questions on which the exports are compared: two with too little memory, then calls with enough.
+/// The questions on which the exports are compared: two with too little memory, then calls with enough; and after them those of the plain engine, which
+/// are drawn apart, so that the others are as they were before there was one.
 pub fn many(chance: &mut Chance, files: &Files) -> Vec<Question> {
+    let mut apart = chance.apart();
+    let plan = Plan::read(&files.case, &files.book).ok();
     let mut questions = vec![draw_short(chance), draw_short(chance)];
-    let calls = match Plan::read(&files.case, &files.book) {
-        Ok(plan) => answered(chance, &plan),
-        Err(_) => refused(chance),
+    let calls = match &plan {
+        Some(plan) => answered(chance, plan),
+        None => refused(chance),
     };
-    for call in calls {
-        let lent = enough(chance);
-        questions.push(Question { call, lent });
-    }
+    questions.extend(with_enough(chance, calls));
+    let short = parts::draw_call(&mut apart);
+    questions.push(short_of(&mut apart, short, Memory::Weights));
+    let calls = match &plan {
+        Some(plan) => parts::answered(&mut apart, plan),
+        None => parts::refused(&mut apart),
+    };
+    questions.extend(with_enough(&mut apart, calls));
     questions
+}
+
+/// Calls with memory enough.
+fn with_enough(chance: &mut Chance, calls: Vec<Call>) -> Vec<Question> {
+    let lend = |call| Question {
+        call,
+        lent: enough(chance),
+    };
+    calls.into_iter().map(lend).collect()
 }
 
 /// The calls of a sound input: arguments that are answered, and some past the last.
@@ -193,7 +241,7 @@ fn asked_of(chance: &mut Chance, inputs: Vec<Files>) -> Vec<Asked> {
 }
 
 /// A number past the last: the next, or one that has the same low bytes as a number up to the last.
-fn far(chance: &mut Chance, last: usize) -> usize {
+pub(crate) fn far(chance: &mut Chance, last: usize) -> usize {
     let low = chance.below(last + 1);
     [last + 1, low + (1 << 16), low + (1 << 32), usize::MAX][chance.below(4)]
 }
@@ -228,6 +276,11 @@ fn draw_short(chance: &mut Chance) -> Question {
     ];
     let call = calls[chance.below(3)].clone();
     let memory = call.memories()[chance.below(call.memories().len())];
+    short_of(chance, call, memory)
+}
+
+/// A call of which this memory is too short.
+fn short_of(chance: &mut Chance, call: Call, memory: Memory) -> Question {
     let mut lent = enough(chance);
     lent[memory as usize] = too_short(chance, memory.required());
     Question { call, lent }

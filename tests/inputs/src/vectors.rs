@@ -2,6 +2,7 @@
 
 use crate::answers::{answer, Answer, Value};
 use crate::generator::{Chance, Files};
+use crate::parts::Before;
 use crate::questions::{few, Call, Question};
 use crate::writer::{from_hex, to_hex};
 use second::calls::MINUTES;
@@ -46,6 +47,13 @@ pub fn vector(files: &Files, call: &Call) -> String {
         Call::Run { stop } => format!("{stop}|"),
         Call::Listing => String::new(),
         Call::Figures { train, limit } => format!("{train}|{limit}|"),
+        Call::Plain { stop } => format!("{stop}|"),
+        Call::Part {
+            stop,
+            first,
+            count,
+            before,
+        } => format!("{stop}|{first}|{count}|{before:?}|"),
     };
     let answered = answer(files, &Question::exact(call.clone()));
     format!("{name}|{names}|{arguments}{}", answer_text(call, &answered))
@@ -71,6 +79,13 @@ pub fn asked(line: &str) -> Option<(Files, Option<Call>)> {
             train: number(3)?,
             limit: number(4)? as u16,
         },
+        "plain" => Call::Plain { stop: number(3)? },
+        "part" if fields.get(6) == Some(&"All(0)") => Call::Part {
+            stop: number(3)?,
+            first: number(4)? as u64,
+            count: number(5)? as u64,
+            before: Before::All(0),
+        },
         _ => return None,
     };
     Some((files, Some(call)))
@@ -93,18 +108,24 @@ fn answer_text(call: &Call, answer: &Answer) -> String {
         (Ok(Value::Length(length)), Call::Listing) => to_hex(&answer.text[..length]),
         (Ok(Value::Length(length)), _) => run_text(answer, length),
         (Ok(Value::Figures(figures)), _) => figures_text(&figures),
+        (Ok(Value::Choices(count)), _) => format!("{count}|{}", arrivals_text(answer)),
     }
 }
 
-/// A run: the list's length, its rows and the arrivals by train, then minute, with their weights.
+/// A run: the list's length, its rows and the arrivals.
 fn run_text(answer: &Answer, length: usize) -> String {
     let rows: Vec<String> = answer.rows.iter().flatten().map(row_text).collect();
+    format!("{length}|{}|{}", rows.join(";"), arrivals_text(answer))
+}
+
+/// The weights that are not 0, by train, then minute.
+fn arrivals_text(answer: &Answer) -> String {
     let weights = answer.weights.iter().enumerate();
     let arrivals: Vec<String> = weights
         .filter(|(_, weight)| **weight > 0)
         .map(|(at, weight)| format!("{},{},{weight}", at / MINUTES, at % MINUTES))
         .collect();
-    format!("{length}|{}|{}", rows.join(";"), arrivals.join(";"))
+    arrivals.join(";")
 }
 
 /// Never, always or share, the whole numbers behind the doubles, and the lateness.

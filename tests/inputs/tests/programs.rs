@@ -35,6 +35,10 @@ fn vectors_have_their_form_and_are_the_same_for_the_same_seed() {
             ("listing", _) => 4,
             ("figures", true) => 6,
             ("figures", false) => 13,
+            ("plain", true) => 5,
+            ("plain", false) => 6,
+            ("part", true) => 8,
+            ("part", false) => 9,
             other => panic!("{other:?}"),
         };
         assert_eq!(fields.len(), expected, "{line}");
@@ -62,5 +66,5 @@ fn the_fixed_questions_are_those_of_the_made_inputs_and_of_the_first_seeds() {
     let first = made + COUNTED_SEEDS as usize * OF_A_SEED;
     assert!(same(&fixed[..first], &counted()));
     assert!(!same(&of_seed(7), &of_seed(8)));
-    assert!(fixed.iter().all(|asked| asked.questions.len() >= 6));
+    assert!(fixed.iter().all(|asked| asked.questions.len() >= 9));
 }

@@ -20,9 +20,15 @@ fn calls_reach_each_refusal_of_their_arguments_and_memory() {
             }
         }
     }
-    for call in ["run", "listing", "figures"] {
-        let memories = if call == "listing" { 3 } else { 2 };
-        for memory in &MEMORIES[..memories] {
+    let lent: [(&str, &[Memory]); 5] = [
+        ("run", &MEMORIES[..2]),
+        ("listing", &MEMORIES),
+        ("figures", &MEMORIES[..2]),
+        ("plain", &[Memory::Weights]),
+        ("part", &[Memory::Weights]),
+    ];
+    for (call, memories) in lent {
+        for memory in memories {
             for lent in ["none", "one byte", "some", "all but a byte"] {
                 counts.ask(short_name(call, *memory, lent));
             }
@@ -64,7 +70,7 @@ fn short_name(call: &str, memory: Memory, lent: &str) -> String {
     format!("refusal 14: {call}: of {memory:?} is lent: {lent}")
 }
 
-/// The kinds that a question belongs to by its answer; of refused readings, none.
+/// The kinds that a question belongs to by its answer; of refused readings, and of the plain engine with enough memory, none.
 fn kinds(files: &Files, plan: Option<&Plan>, question: &Question) -> Vec<String> {
     if let Some(memory) = question.short_of() {
         let refusal = answer(files, question).value.err();
@@ -77,9 +83,9 @@ fn kinds(files: &Files, plan: Option<&Plan>, question: &Question) -> Vec<String>
         };
         return vec![short_name(question.call.name(), memory, lent)];
     }
-    let kinds = match plan {
-        Some(plan) => kinds_of_call(files, plan, question),
-        None => Vec::new(),
+    let kinds = match (plan, &question.call) {
+        (None, _) | (_, Call::Plain { .. } | Call::Part { .. }) => Vec::new(),
+        (Some(plan), _) => kinds_of_call(files, plan, question),
     };
     kinds.into_iter().map(str::to_string).collect()
 }
@@ -105,6 +111,7 @@ fn kinds_of_call(files: &Files, plan: &Plan, question: &Question) -> Vec<&'stati
             }],
             _ => figures_refused(plan, refused),
         },
+        Call::Plain { .. } | Call::Part { .. } => unreachable!("parts.rs tells their kinds"),
     }
 }
 
