@@ -9,20 +9,21 @@ use std::path::Path;
 use std::process::ExitCode;
 
 /// The definitions that computing has to see through, by the module that declares them.
-const OPENED: [(&str, &str); 7] = [
+const OPENED: [(&str, &str); 8] = [
     ("Files", "headOf, trackOf, stopOf, trainOf, pairOf, tableOf, coupleOf, kindOf, known, inPlace, lengths, most, howMany, headRules, stationRules, unknown, leads, trackRules, pathBroken, timesBroken, trainRules, tableRules, trackAt, coupled, unlike, coupleRules, bodyRules, fieldRules, more, endRules, readField, readFields, read, tablesOf, caseOf, files"),
     ("Turns", "same, way, ahead, lastStation, elements, capacity, names, paired, ended, asks, sooner, dueAgain, leaving, entered, arriving, goesFirst, next, turns, visit, minute, minutes, runFrom"),
     ("Single", "waits, firstMarks, trainsOn, partnerHeld, enters, serveTrain, singleRules, single as singleState, arrival"),
-    ("Joint", "common, without, inside, apart, outsides, choicesIn, whole, weightOf, weight, total, firstList, carry, meets, meetsAcross, across, pieces, serveEntry, checkList, jointRules, joint, weightAt"),
+    ("Joint", "common, without, inside, apart, outsides, choicesIn, whole, choices, weightOf, weight, total, firstList, carry, meets, meetsAcross, across, pieces, serveEntry, checkList, jointRules, joint, weightAt"),
     ("Listing", "decimal, notArrived, trainLines, listing as listingOf"),
     ("Figures", "plan, onTime, late, double, punctuality, shares, latenessSum, latenessWeight, figures"),
     ("Calls", "choiceBroken, noSuchTrain, singleRun, stoppedRun, wholeRun, trainRun, setImage, coverImage, rowImage, textOf"),
+    ("Plain", "arrivalBy, adds, addedBy, plainRun, partRun"),
 ];
 
 /// What the doubles' computing has to see through besides.
 const FLOATS: &str = "div, ofInt, round, size, span, climb, units, odd, toBits";
 
-const ASKED: &str = "reading, single, run, listing, punctual";
+const ASKED: &str = "reading, single, run, listing, punctual, plain, part";
 
 /// The crates that are written, the inputs by turns.
 const CRATES: [&str; 2] = ["vectors_even", "vectors_odd"];
@@ -122,6 +123,11 @@ fn statement(fields: &[&str]) -> Option<Statement> {
         ("figures", [k, l, rest @ ..]) => {
             (format!("punctual {files} {k} {l}"), figures_answer(rest)?)
         }
+        ("plain", [m, rest @ ..]) => (format!("plain {files} {m}"), plain_answer(rest)?),
+        ("part", [m, first, most, "All(0)", rest @ ..]) => (
+            format!("part {files} {m} {first} {most}"),
+            plain_answer(rest)?,
+        ),
         _ => return None,
     };
     Some(Statement {
@@ -159,15 +165,31 @@ fn run_answer(rest: &[&str]) -> Option<Vec<u64>> {
             for row in rows.split(';').filter(|row| !row.is_empty()) {
                 answer.extend(row_image(row)?);
             }
-            for arrival in arrivals.split(';').filter(|arrival| !arrival.is_empty()) {
-                for word in arrival.split(',') {
-                    answer.push(number(word)?);
-                }
-            }
+            answer.extend(weights(arrivals)?);
             Some(answer)
         }
         _ => None,
     }
+}
+
+/// COUNT|k,t,w;..: how many choices were run, and what they add.
+fn plain_answer(rest: &[&str]) -> Option<Vec<u64>> {
+    match rest {
+        [text] => refused(text),
+        [count, arrivals] => {
+            let mut answer = vec![2, number(count)?];
+            answer.extend(weights(arrivals)?);
+            Some(answer)
+        }
+        _ => None,
+    }
+}
+
+/// Train, minute and weight of each weight in `k,t,w;..`.
+fn weights(arrivals: &str) -> Option<Vec<u64>> {
+    let each = arrivals.split(';').filter(|arrival| !arrival.is_empty());
+    each.flat_map(|arrival| arrival.split(',').map(number))
+        .collect()
 }
 
 /// The 16 bytes of docs/FORMATS.md for a row `train,place,kind,minute,set0.set1..`.
