@@ -12,7 +12,7 @@ SHELL = /bin/bash
 BUILT = target/desk
 ENGINE = target/staticlib/libdesk.a
 PROVED := $(shell find crates -name '*.rt' -o -name '*.antt') crates.txt
-COMPILE = $(CC) -std=c99 $(CFLAGS) -Iinclude
+COMPILE = $(CC) -std=c99 $(CFLAGS) -pthread -Iinclude
 
 all: $(BUILT)/lampreysong $(BUILT)/small-desk
 

@@ -2,8 +2,11 @@
 #include "answers.h"
 
 #include <stdio.h>
+#include <string.h>
 
-enum { MINUTES = 720, WEIGHT = 8, ROW = 16, COVER = 8 }; /* docs/FORMATS.md: rows and weights */
+#include "weights.h"
+
+enum { ROW = 16, COVER = 8 }; /* docs/FORMATS.md: rows */
 
 struct lampreysong_answer ask_run(const struct study *s, unsigned stop, struct lent *lent)
 {
@@ -21,6 +24,18 @@ struct lampreysong_train_figures ask_figures(const struct study *s, unsigned tra
 {
     return lampreysong_figures(s->case_bytes.at, s->case_bytes.length, s->book_bytes.at, s->book_bytes.length, train, (uint16_t)limit, lent->rows,
                                sizeof lent->rows, lent->weights, sizeof lent->weights);
+}
+
+struct lampreysong_answer ask_plain_part(const struct study *s, unsigned stop, uint64_t first, uint64_t count, uint8_t *weights)
+{
+    return lampreysong_plain_part(s->case_bytes.at, s->case_bytes.length, s->book_bytes.at, s->book_bytes.length, stop, first, count, weights,
+                                  LAMPREYSONG_WEIGHTS);
+}
+
+struct lampreysong_answer ask_plain_none(const struct study *study, unsigned stop, uint8_t *weights)
+{
+    memset(weights, 0, LAMPREYSONG_WEIGHTS);
+    return ask_plain_part(study, stop, choices_of(study), 1, weights);
 }
 
 /* A choice without an index is refused 15, which comes right after the files' refusals: no case is without a train. */
@@ -64,33 +79,27 @@ unsigned least_room(const struct study *study)
     return least;
 }
 
-static uint64_t number_at(const uint8_t *at)
+uint32_t choices_of(const struct study *study)
 {
-    uint64_t number = 0;
-    for (unsigned i = 0; i < WEIGHT; i++)
-        number = number * 256 + at[i];
-    return number;
+    uint32_t product = 1;
+    for (unsigned i = 0; i < study->level.trains; i++)
+        product *= table_of(&study->level, &study->book, study->level.train[i].type)->pairs;
+    return product;
 }
 
 uint64_t weight_in(const struct lent *lent, unsigned train, unsigned minute)
 {
-    return number_at(lent->weights + ((size_t)train * MINUTES + minute) * WEIGHT);
+    return weight_at(lent->weights, train, minute);
 }
 
 uint64_t weight_by(const struct lent *lent, unsigned train, unsigned minute)
 {
-    uint64_t sum = 0;
-    for (unsigned t = 0; t <= minute; t++)
-        sum += weight_in(lent, train, t);
-    return sum;
+    return arrived_by(lent->weights, train, minute);
 }
 
 uint64_t whole_weight(const struct level *level)
 {
-    uint64_t whole = 1;
-    for (unsigned i = 0; i < level->trains; i++)
-        whole *= 100;
-    return whole;
+    return whole_of(level->trains);
 }
 
 struct entry entry_at(const struct lent *lent, unsigned row)

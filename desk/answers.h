@@ -18,6 +18,12 @@ struct lampreysong_answer ask_run(const struct study *study, unsigned stop, stru
 struct lampreysong_answer ask_listing(const struct study *study, struct lent *lent);
 struct lampreysong_train_figures ask_figures(const struct study *study, unsigned train, unsigned limit, struct lent *lent);
 
+/* The plain engine over the choices from `first` on, `count` of them at most; they are added to the weights, LAMPREYSONG_WEIGHTS bytes. */
+struct lampreysong_answer ask_plain_part(const struct study *study, unsigned stop, uint64_t first, uint64_t count, uint8_t *weights);
+
+/* The plain engine asked for the choice behind the last one: it refuses what it refuses, and otherwise must have run 0 choices. The weights are 0 then. */
+struct lampreysong_answer ask_plain_none(const struct study *study, unsigned stop, uint8_t *weights);
+
 /* Judges the files alone, as every call does first: refusal 0 if they are accepted. */
 struct lampreysong_answer ask_files(const struct study *study);
 
@@ -26,6 +32,10 @@ struct lampreysong_answer ask_book(const struct study *study);
 
 /* The least room with which the whole run of an accepted case is answered; one more than the most room if there is none. */
 unsigned least_room(const struct study *study);
+
+/* How many choices of one delay a train an accepted case has: 8 to the power of 7 at most. */
+enum { MOST_CHOICES = 2097152 };
+uint32_t choices_of(const struct study *study);
 
 /* The weight that arrives in a minute, and by its end; train and minute as in the case. */
 uint64_t weight_in(const struct lent *lent, unsigned train, unsigned minute);

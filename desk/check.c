@@ -17,19 +17,10 @@ static void print_count(unsigned count, const char *one, const char *more)
     printf("%u %s", count, count == 1 ? one : more);
 }
 
-/* How many choices of one delay a train there are: at most 8 to the power of 7. */
-static uint32_t combinations(void)
-{
-    uint32_t product = 1;
-    for (unsigned i = 0; i < study.level.trains; i++)
-        product *= table_of(&study.level, &study.book, study.level.train[i].type)->pairs;
-    return product;
-}
-
 static void print_sound(void)
 {
     const struct level *level = &study.level;
-    uint32_t choices = combinations();
+    uint32_t choices = choices_of(&study);
     if (level->title[0] != '\0')
         printf("%s\n", level->title);
     fputs("sound: ", stdout);

@@ -16,7 +16,7 @@ enum { MOST_READ = 4 };
 static struct text was_read[MOST_READ];
 static unsigned times_read;
 
-int read_input(const char *name, struct input *input)
+int read_up_to(const char *name, size_t most, char *bytes, size_t *length, int *longer)
 {
     FILE *file = is_standard(name) ? stdin : fopen(name, "rb");
     int failed, error;
@@ -25,17 +25,24 @@ int read_input(const char *name, struct input *input)
         return 0;
     }
     errno = 0;
-    input->text.length = fread(input->text.at, 1, MOST_TEXT, file);
-    input->longer = input->text.length == MOST_TEXT && getc(file) != EOF;
+    *length = fread(bytes, 1, most, file);
+    *longer = *length == most && getc(file) != EOF;
     error = errno;
     failed = ferror(file);
     if (file != stdin)
         fclose(file);
     if (failed)
         misused("%s can't be read to its end: %s", is_standard(name) ? "standard input" : name, strerror(error));
-    else if (times_read < MOST_READ)
-        was_read[times_read++] = input->text;
     return !failed;
+}
+
+int read_input(const char *name, struct input *input)
+{
+    if (!read_up_to(name, MOST_TEXT, input->text.at, &input->text.length, &input->longer))
+        return 0;
+    if (times_read < MOST_READ)
+        was_read[times_read++] = input->text;
+    return 1;
 }
 
 int is_text(const struct input *input)
@@ -48,8 +55,7 @@ int is_text(const struct input *input)
     return input->text.length > 0;
 }
 
-/* Whether a file holds what was read, under whatever name. What has no end, as a pipe, holds nothing. */
-static int holds_input(const char *name)
+int holds_input(const char *name)
 {
     static struct text there;
     FILE *file = fopen(name, "r+b");
@@ -61,16 +67,16 @@ static int holds_input(const char *name)
         fclose(file);
     for (unsigned i = 0; i < times_read && there.length > 0; i++)
         same |= there.length == was_read[i].length && memcmp(there.at, was_read[i].at, there.length) == 0;
+    if (same)
+        misused("%s holds what was read, and is not written over; give another file to --output", name);
     return same;
 }
 
 FILE *begin_output(const char *name)
 {
     FILE *out;
-    if (!is_standard(name) && holds_input(name)) {
-        misused("%s holds what was read, and is not written over; give another file to --output", name);
+    if (!is_standard(name) && holds_input(name))
         return NULL;
-    }
     out = is_standard(name) ? stdout : fopen(name, "wb");
     if (out == NULL)
         misused("%s can't be written: %s", name, strerror(errno));

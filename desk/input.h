@@ -6,6 +6,9 @@
 
 #include "text.h"
 
+/* Reads a file, `-` being standard input, up to so many bytes; false, and said, if it can't be read. `longer` says that there are more. */
+int read_up_to(const char *name, size_t most, char *bytes, size_t *length, int *longer);
+
 /* Reads a file, `-` being standard input, up to the most that a text has; false, and said, if it can't be read to its end. A longer file is cut, and
  * `longer` says so. */
 struct input {
@@ -17,6 +20,9 @@ int read_input(const char *name, struct input *input);
 /* Whether what was read is text: it has bytes, and no control character but tab, line feed and carriage return. An accepted case or book begins with its first
  * tag, a control character, so it is never taken for text. */
 int is_text(const struct input *input);
+
+/* Whether a file holds what was read, under whatever name; said if it does. What has no end, as a pipe, holds nothing. */
+int holds_input(const char *name);
 
 /* Opens a file to write to, standard output if the name is null or `-`; null, and said, if that can't be had, or if the file holds what was read: what a
  * planner wrote is never written over. */

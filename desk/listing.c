@@ -7,6 +7,7 @@
 #include "columns.h"
 #include "input.h"
 #include "refusal.h"
+#include "weights.h"
 
 enum { LINE_COLUMNS = 80, LEAST_WEIGHT_COLUMNS = 6, OTHER_COLUMNS = 28 }; /* the last are those of a row beside its weight and its bar */
 
@@ -28,17 +29,8 @@ static uint64_t not_arrived(const struct level *level, const struct lent *lent, 
 static int weights_agree(const struct level *level, const struct lent *lent)
 {
     static char seen[LAMPREYSONG_TEXT];
-    size_t at;
     memset(seen, 0, sizeof seen);
-    at = (size_t)snprintf(seen, sizeof seen, "total %" PRIu64 "\n", whole_weight(level));
-    for (unsigned k = 0; k < level->trains; k++) {
-        for (unsigned t = 0; t <= level->head.last; t++)
-            if (weight_in(lent, k, t) > 0 && at < sizeof seen)
-                at += (size_t)snprintf(seen + at, sizeof seen - at, "%u %u %" PRIu64 "\n", k, t, weight_in(lent, k, t));
-        if (at < sizeof seen)
-            at += (size_t)snprintf(seen + at, sizeof seen - at, "%u - %" PRIu64 "\n", k, not_arrived(level, lent, k));
-    }
-    return at < sizeof seen && memcmp(seen, lent->text, sizeof seen) == 0;
+    return put_lines(lent->weights, level->trains, level->head.last, seen, sizeof seen) < sizeof seen && memcmp(seen, lent->text, sizeof seen) == 0;
 }
 
 /* ---- for a person */

@@ -40,6 +40,19 @@ static const struct command commands[] = {
      TAKES_BOOK | TAKES_AS_BOOK | TAKES_OUTPUT, command_compile},
     {"show", "print a case or a book as text", "With --fields it prints the bytes field by field, of a damaged file too.",
      TAKES_BOOK | TAKES_NAMES | TAKES_AS_BOOK | TAKES_FIELDS | TAKES_OUTPUT, command_show},
+    {"plain", "run every choice by itself, and print the weights by numbers",
+     "This is the plain engine: slow, but it needs no room. It prints how many choices were run, and then the listing as\n"
+     "`listing --plain` has it; with --stop, what has arrived by that minute. On a terminal it shows how far it is. With --part\n"
+     "it runs a part of the choices, on this machine or another, and writes what they come to for `lampreysong sum`.",
+     TAKES_BOOK | TAKES_STOP | TAKES_JOBS | TAKES_PART | TAKES_OUTPUT, command_plain},
+    {"sum", "sum parts that were run by plain --part, and print what plain prints",
+     "The files are the parts of one case, with one book and one stop minute, in any order. Each choice must be in one of\n"
+     "them and in no other; if not, or if a file is damaged, nothing is summed, and it is said what to mend.",
+     TAKES_FILES, command_sum},
+    {"compare", "run the joint run and the plain engine, and say whether their weights agree",
+     "Exit status: 0 where they agree; 3 where they differ, and each weight that differs is printed; 4 where the joint run\n"
+     "has no room, so that there is nothing to compare, and what the plain engine answers is printed.",
+     TAKES_BOOK | TAKES_NAMES | TAKES_STOP | TAKES_JOBS, command_compare},
 };
 
 enum kind { FLAG, NUMBER, WORDS };
@@ -53,23 +66,26 @@ struct known_option {
     enum option bit;
     enum kind kind;
     size_t member; /* of struct request */
+    int least, most; /* of a number */
 };
 
 #define MEMBER(name) offsetof(struct request, name)
 static const struct known_option options[] = {
-    {"--book", "FILE", "the book: delay tables for types that have none in the case; text or bytes", TAKES_BOOK, WORDS, MEMBER(book_name)},
-    {"--names", "TEXT", "the text that the case was compiled from, for the names of a case given as bytes", TAKES_NAMES, WORDS, MEMBER(names)},
-    {"--output", "FILE", "write to this file, not to standard output; -o is short for it", TAKES_OUTPUT, WORDS, MEMBER(output)},
-    {"--train", "TRAIN", "only this train, by its name or number", TAKES_TRAIN, WORDS, MEMBER(train)},
-    {"--delays", "LIST", "a delay for each train in minutes, as +3,+0", TAKES_DELAYS, WORDS, MEMBER(delays)},
-    {"--choice", "LIST", "an index for each train, counted from 0 in its table, as 1,0", TAKES_CHOICE, WORDS, MEMBER(choice)},
-    {"--limit", "MINUTES", "how many minutes after plan still count as on time, 0 to 65535; 0 if left out", TAKES_LIMIT, NUMBER, MEMBER(limit)},
-    {"--stop", "MINUTE", "the minute after which the run stops, 0 to 65535; the last minute if left out", TAKES_STOP, NUMBER, MEMBER(stop)},
-    {"--bars", NULL, "draw a bar for each weight", TAKES_BARS, FLAG, MEMBER(bars)},
-    {"--plain", NULL, "print exactly what the program `shift` prints, by numbers", TAKES_PLAIN, FLAG, MEMBER(plain)},
-    {"--as-book", NULL, "the file is a book, not a case", TAKES_AS_BOOK, FLAG, MEMBER(as_book)},
-    {"--fields", NULL, "print each field's place, tag, length and bytes", TAKES_FIELDS, FLAG, MEMBER(fields)},
-    {"--shift", NULL, "draw the shift: planned paths, and how many trains stand where", TAKES_SHIFT, FLAG, MEMBER(shift)},
+    {"--book", "FILE", "the book: delay tables for types that have none in the case; text or bytes", TAKES_BOOK, WORDS, MEMBER(book_name), 0, 0},
+    {"--names", "TEXT", "the text that the case was compiled from, for the names of a case given as bytes", TAKES_NAMES, WORDS, MEMBER(names), 0, 0},
+    {"--output", "FILE", "write to this file, not to standard output; -o is short for it", TAKES_OUTPUT, WORDS, MEMBER(output), 0, 0},
+    {"--train", "TRAIN", "only this train, by its name or number", TAKES_TRAIN, WORDS, MEMBER(train), 0, 0},
+    {"--delays", "LIST", "a delay for each train in minutes, as +3,+0", TAKES_DELAYS, WORDS, MEMBER(delays), 0, 0},
+    {"--choice", "LIST", "an index for each train, counted from 0 in its table, as 1,0", TAKES_CHOICE, WORDS, MEMBER(choice), 0, 0},
+    {"--limit", "MINUTES", "how many minutes after plan still count as on time, 0 to 65535; 0 if left out", TAKES_LIMIT, NUMBER, MEMBER(limit), 0, 65535},
+    {"--stop", "MINUTE", "the minute after which the run stops, 0 to 65535; the last minute if left out", TAKES_STOP, NUMBER, MEMBER(stop), 0, 65535},
+    {"--jobs", "N", "how many threads run choices, 1 to 256; one for each core that the process may use if left out", TAKES_JOBS, NUMBER, MEMBER(jobs), 1, MOST_JOBS},
+    {"--part", "I/N", "run only the I-th of N nearly equal parts of the choices, and write it for `lampreysong sum`", TAKES_PART, WORDS, MEMBER(part), 0, 0},
+    {"--bars", NULL, "draw a bar for each weight", TAKES_BARS, FLAG, MEMBER(bars), 0, 0},
+    {"--plain", NULL, "print exactly what the program `shift` prints, by numbers", TAKES_PLAIN, FLAG, MEMBER(plain), 0, 0},
+    {"--as-book", NULL, "the file is a book, not a case", TAKES_AS_BOOK, FLAG, MEMBER(as_book), 0, 0},
+    {"--fields", NULL, "print each field's place, tag, length and bytes", TAKES_FIELDS, FLAG, MEMBER(fields), 0, 0},
+    {"--shift", NULL, "draw the shift: planned paths, and how many trains stand where", TAKES_SHIFT, FLAG, MEMBER(shift), 0, 0},
 };
 #undef MEMBER
 
@@ -117,7 +133,8 @@ void print_help(FILE *out)
         fprintf(out, "  %-8s %s\n", commands[i].name, commands[i].does);
     fputs("\n`lampreysong COMMAND --help` tells of a command's options, `lampreysong --refusals` what each refusal means,\n"
           "`lampreysong --version` which program this is and what proved it.\n"
-          "Exit status: 0 for an answer, 1 for a refused case, 2 for misuse or a file that can't be read or written.\n",
+          "Exit status: 0 for an answer, 1 for a refused case, 2 for misuse or a file that can't be read or written; `compare` has\n"
+          "two more, 3 where the engines differ and 4 where the joint run has no room.\n",
           out);
 }
 
@@ -130,7 +147,8 @@ static void print_option(FILE *out, const char *option, const char *value, const
 
 void print_command_help(FILE *out, const struct command *command)
 {
-    fprintf(out, "Use: lampreysong %s FILE [OPTION..]\n\nTo %s.\n%s\n\nOptions:\n", command->name, command->does, command->more);
+    fprintf(out, "Use: lampreysong %s FILE%s [OPTION..]\n\nTo %s.\n%s\n\nOptions:\n", command->name, command->takes & TAKES_FILES ? ".." : "", command->does,
+            command->more);
     for (size_t i = 0; i < COUNT(options); i++)
         if (command->takes & options[i].bit)
             print_option(out, options[i].option, options[i].value, options[i].help);
@@ -161,8 +179,8 @@ static int store(struct request *request, const struct known_option *word, const
         *(const char **)member_of(request, word) = value;
         return 1;
     }
-    if (!read_number(value, 65535, &number)) {
-        misused("%s takes a whole number of 0 to 65535, in digits and without leading zeros; `%s` is none", word->option, value);
+    if (!read_number(value, (unsigned long)word->most, &number) || number < (unsigned long)word->least) {
+        misused("%s takes a whole number of %d to %d, in digits and without leading zeros; `%s` is none", word->option, word->least, word->most, value);
         return 0;
     }
     *(int32_t *)member_of(request, word) = (int32_t)number;
@@ -205,13 +223,15 @@ static char **read_option(const struct command *command, char **words, unsigned 
     return NULL;
 }
 
-static int take_case_name(struct request *request, const char *word)
+/* Takes a word for a file; those of a command that takes several are moved to the front of the words. */
+static int take_file(const struct command *command, struct request *request, char *word)
 {
-    if (request->case_name != NULL) {
+    if (request->file_count > 0 && !(command->takes & TAKES_FILES)) {
         misused("one file is expected, and %s is a second one; a book is given by --book FILE", word);
         return 0;
     }
-    request->case_name = word;
+    request->files[request->file_count++] = word;
+    request->case_name = request->files[0];
     return 1;
 }
 
@@ -221,6 +241,7 @@ int read_words(const struct command *command, char **words, struct request *requ
     int files_only = 0;
     memset(request, 0, sizeof *request);
     request->limit = request->stop = -1;
+    request->files = words;
     *help = 0;
     for (; *words != NULL; words++) {
         if (!files_only && (strcmp(*words, "--help") == 0 || strcmp(*words, "-h") == 0))
@@ -228,7 +249,7 @@ int read_words(const struct command *command, char **words, struct request *requ
         if (!files_only && strcmp(*words, "--") == 0)
             files_only = 1;
         else if (files_only || **words != '-' || (*words)[1] == '\0') {
-            if (!take_case_name(request, *words))
+            if (!take_file(command, request, *words))
                 return 0;
         } else if ((words = read_option(command, words, &given, request)) == NULL)
             return 0;

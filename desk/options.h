@@ -20,7 +20,10 @@ enum option {
     TAKES_PLAIN = 1 << 9,
     TAKES_AS_BOOK = 1 << 10,
     TAKES_FIELDS = 1 << 11,
-    TAKES_SHIFT = 1 << 12
+    TAKES_SHIFT = 1 << 12,
+    TAKES_JOBS = 1 << 13,
+    TAKES_PART = 1 << 14,
+    TAKES_FILES = 1 << 15 /* no option: the command takes several files */
 };
 
 enum { COMMAND_BYTES = 8 };

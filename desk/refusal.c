@@ -112,8 +112,7 @@ static void print_bytes(FILE *out, const struct fault *fault)
     fputs(size > MOST_SHOWN ? " ..\n" : "\n", out);
 }
 
-/* Each sentence on a line, with the label before the first; the first letter is made large. */
-static void print_sentences(FILE *out, const char *label, const char *sentences)
+void print_sentences(FILE *out, const char *label, const char *sentences)
 {
     int begins = 1;
     if (*sentences == '\0')

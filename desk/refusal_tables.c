@@ -131,4 +131,5 @@ void words_of_room(const struct fault *fault, struct words *words)
     else
         say_mend(words, "the most that a case can ask for, %d rows, does not suffice.", (int)MOST_ROOM);
     say_mend(words, "fewer delays in the tables or fewer trains make the list shorter.");
+    say_mend(words, "`lampreysong plain` runs every choice by itself, and needs no room.");
 }

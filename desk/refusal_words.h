@@ -70,6 +70,9 @@ const char *kind_of(unsigned tag);
 void say_wrong(struct words *words, const char *format, ...);
 void say_mend(struct words *words, const char *format, ...);
 
+/* Prints each sentence on a line, with the label before the first; the first letter is made large. */
+void print_sentences(FILE *out, const char *label, const char *sentences);
+
 /* The words of a number, for a fault that has it. */
 void words_of_overrun(const struct fault *fault, struct words *words);
 void words_of_tag(const struct fault *fault, struct words *words);

@@ -1,4 +1,5 @@
-/* The planning desk's calls: the single run, the joint run, the listing and the figures of a shift, and the field viewer.
+/* The planning desk's calls: the single run, the joint run, the listing and the figures of a shift, and the field viewer; and the plain engine, which runs
+ * every choice by itself, whole or in parts.
  *
  * A case and a book are bytes (docs/FORMATS.md); a case that is accepted has at most 919 of them. Every call takes any bytes, damaged ones too: it
  * answers, or it refuses with a number, a file and a place. Nothing is kept between calls, nothing is allocated, and a call needs less than 512 KiB of stack.
@@ -47,12 +48,12 @@ enum {
 /* The single run's answer for a train that does not arrive by the last minute. */
 #define LAMPREYSONG_NONE 65535u
 
-/* What the single run, the run and the listing answer: 16 bytes. `refusal` is 0 if the call was answered. */
+/* What the single run, the run, the listing and the plain engine answer: 16 bytes. `refusal` is 0 if the call was answered. */
 struct lampreysong_answer {
     uint16_t refusal;
     uint16_t file;  /* of the refusal: 0 case, 1 book */
     uint32_t place; /* of the refusal: an offset in that file */
-    uint64_t value; /* minute of arrival, number of entries, or number of bytes; 0 if refused */
+    uint64_t value; /* minute of arrival, number of entries, of bytes, or of choices run; 0 if refused */
 };
 
 /* Punctuality: never, always, or a share. */
@@ -104,6 +105,18 @@ struct lampreysong_answer lampreysong_listing(const uint8_t *case_bytes, size_t 
 /* The figures of a train for a limit in minutes, with rows and weights after the last minute. Refuses 14, the files' faults, 16, 12. */
 struct lampreysong_train_figures lampreysong_figures(const uint8_t *case_bytes, size_t case_length, const uint8_t *book, size_t book_length, uint64_t train,
                                                uint16_t limit, uint8_t *rows, size_t rows_length, uint8_t *weights, size_t weights_length);
+
+/* Every choice by itself to a stop minute: the weights, as the run fills them, and the number of choices run, which is the product, over the trains, of the
+ * sizes of their tables. It keeps no list, so it also answers where the run has no room. Refuses 14, the files' faults, 17; never 12. */
+struct lampreysong_answer lampreysong_plain(const uint8_t *case_bytes, size_t case_length, const uint8_t *book, size_t book_length, uint64_t stop,
+                                            uint8_t *weights, size_t weights_length);
+
+/* The same for a part: the choices numbered from `first` on, at most `count` of them, are added to the weights as they are lent; and the number of choices run.
+ * Choices are numbered from 0, which takes every train's first delay, and the last train's delay changes fastest. Both numbers may be any: a part that reaches
+ * past the last choice runs those that there are; one that begins past it runs none, answers 0 and leaves the weights. A sum that would pass 2^64 - 1 becomes
+ * 2^64 - 1. Parts may run at the same time in several threads, each on weights of its own. Refuses as the plain engine does. */
+struct lampreysong_answer lampreysong_plain_part(const uint8_t *case_bytes, size_t case_length, const uint8_t *book, size_t book_length, uint64_t stop,
+                                                 uint64_t first, uint64_t count, uint8_t *weights, size_t weights_length);
 
 /* The field at a place of a case or a book, an offset from its start, and the place of the next. It judges no tag and no length: it gives the field, or
  * says that the file has ended, as it has at every place past the end, or gives refusal 1 and stays. A walk over a file starts at place 0. */

@@ -72,6 +72,32 @@ static void calls(void)
     expect(f.refusal == LAMPREYSONG_NO_TRAIN && f.punctuality == LAMPREYSONG_REFUSED && f.arrived == 0, "the figures of no train");
 }
 
+/* The weight of a train in a minute, which in the shift example is below 65,536. */
+static unsigned weight(int train, int minute)
+{
+    const uint8_t *at = weights + (train * 720 + minute) * 8;
+    return at[6] * 256u + at[7];
+}
+
+static void plain(void)
+{
+    struct lampreysong_answer a = lampreysong_plain(shift, sizeof shift, NULL, 0, 20, weights, sizeof weights);
+    expect(a.refusal == 0 && a.value == 4, "the plain engine runs four choices");
+    expect(weight(0, 6) == 6000 && weight(0, 9) == 4000 && weight(1, 11) == 3600 && weight(1, 14) == 6400, "the weights of all choices");
+    a = lampreysong_plain_part(shift, sizeof shift, NULL, 0, 20, 1, 2, weights, sizeof weights);
+    expect(a.refusal == 0 && a.value == 2 && weight(0, 6) == 8400 && weight(0, 9) == 6400 && weight(1, 14) == 11200, "a part is added");
+    a = lampreysong_plain_part(shift, sizeof shift, NULL, 0, 20, 3, UINT64_MAX, weights, sizeof weights);
+    expect(a.refusal == 0 && a.value == 1 && weight(0, 9) == 8000 && weight(1, 14) == 12800, "a part that reaches past the last choice");
+    a = lampreysong_plain_part(shift, sizeof shift, NULL, 0, 20, UINT64_MAX, UINT64_MAX, weights, sizeof weights);
+    expect(a.refusal == 0 && a.value == 0 && weight(0, 9) == 8000, "a part past the last choice");
+    a = lampreysong_plain(shift, sizeof shift, NULL, 0, 20, weights, sizeof weights - 1);
+    expect(a.refusal == LAMPREYSONG_TOO_SHORT && a.value == 0 && weight(0, 9) == 8000, "the plain engine that is lent too little");
+    a = lampreysong_plain_part(shift, sizeof shift, NULL, 0, 21, 0, 1, weights, sizeof weights);
+    expect(a.refusal == LAMPREYSONG_STOP_TOO_LATE && a.value == 0 && weight(0, 9) == 0, "a part that would stop too late");
+    a = lampreysong_plain(shift, sizeof shift, NULL, 0, 9, weights, sizeof weights);
+    expect(a.refusal == 0 && a.value == 4 && weight(0, 9) == 4000 && weight(1, 11) == 0, "the plain engine to a stop minute");
+}
+
 static int same(struct lampreysong_viewed v, int refusal, int given, int tag, int size, uint64_t next)
 {
     return v.refusal == refusal && v.given == given && v.tag == tag && v.size == size && v.next == next;
@@ -93,6 +119,7 @@ int main(void)
     layouts();
     refusals();
     calls();
+    plain();
     fields();
     return tally();
 }

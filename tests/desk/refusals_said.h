@@ -597,13 +597,15 @@ static const char *const little_room_said =
     "  where  early.txt\n"
     "  wrong  The run needs more than 8 rows, which is the room of this case.\n"
     "  mend   Write `room 9`; it can be up to 1024.\n"
-    "         Fewer delays in the tables or fewer trains make the list shorter.\n";
+    "         Fewer delays in the tables or fewer trains make the list shorter.\n"
+    "         `lampreysong plain` runs every choice by itself, and needs no room.\n";
 
 static const char *const all_room_said =
     "  where  early.txt\n"
     "  wrong  The run needs more than 1024 rows, which is the room of this case.\n"
     "  mend   The most that a case can ask for, 1024 rows, does not suffice.\n"
-    "         Fewer delays in the tables or fewer trains make the list shorter.\n";
+    "         Fewer delays in the tables or fewer trains make the list shorter.\n"
+    "         `lampreysong plain` runs every choice by itself, and needs no room.\n";
 
 static const char *const late_stop_said =
     "  wrong  The run is to stop after minute 21, but the last minute is 20.\n"
