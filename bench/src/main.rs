@@ -1,6 +1,7 @@
-//! The program of the benchmark, which times the exported run over the whole window. What it prints is Markdown.
+//! The program of the benchmark, which times the exported run and the plain engine over the whole window. What it prints is Markdown.
 //!
 //! - `bench second FOLDER [CASE..]`: beside the second program's joint run and its enumeration of all choices;
+//! - `bench plain FOLDER [CASE..]`: the plain engine beside the second program's and its enumeration, a choice;
 //! - `bench beside THIS OTHER FOLDER [CASE..]`: two builds of the library in turns, each as a shared object;
 //! - `bench copies THIS NOTING FOLDER [CASE..]`: and what it copies, which the library NOTING notes (bench/copies.c).
 //!
@@ -14,6 +15,7 @@ mod counts;
 mod exported;
 mod library;
 mod measured;
+mod plain;
 mod series;
 mod tables;
 mod waves;
@@ -24,10 +26,12 @@ fn main() {
     let words: Vec<String> = std::env::args().skip(1).collect();
     match words.first().map(String::as_str) {
         Some("second") if words.len() > 1 => second(&words[1], &words[2..]),
+        Some("plain") if words.len() > 1 => plain(&words[1], &words[2..]),
         Some("beside") if words.len() > 3 => beside(&words[1..3], &words[3], &words[4..]),
         Some("copies") if words.len() > 3 => copies(&words[1..3], &words[3], &words[4..]),
         _ => {
             eprintln!("use: bench second FOLDER [CASE..]");
+            eprintln!("     bench plain FOLDER [CASE..]");
             eprintln!("     bench beside THIS OTHER FOLDER [CASE..]");
             eprintln!("     bench copies THIS NOTING FOLDER [CASE..]");
             std::process::exit(2);
@@ -41,6 +45,15 @@ fn second(folder: &str, words: &[String]) {
     tables::print_ratios(&measured);
     tables::print_costs(&measured);
     tables::print_series();
+}
+
+/// The plain engine beside the second program's and its enumeration, a choice.
+fn plain(folder: &str, words: &[String]) {
+    plain::print_head();
+    for files in cases(folder, words) {
+        plain::print(&files);
+    }
+    plain::print_foot();
 }
 
 /// This build beside another one, on the cases and on those with waves of blocks.

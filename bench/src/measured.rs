@@ -6,13 +6,14 @@ use crate::counts::{counts, Counts};
 use crate::exported::Desk;
 use second::calls::{run, ROWS, WEIGHTS};
 use second::enumeration::arrivals;
+use second::plain::{choice, choices};
 use second::plan::Plan;
 use second::single;
 
 /// The seconds within which each figure is taken.
 pub const SECONDS: f64 = 1.0;
 /// The most choices that are all run.
-pub const MOST_CHOICES: u64 = 1_024;
+const MOST_CHOICES: u64 = 1_024;
 /// The choices that are run where there are more; the time of all is reckoned from them.
 pub const SOME_CHOICES: u64 = 256;
 
@@ -56,11 +57,7 @@ fn measure(files: &Files, plan: &Plan) -> Measured {
         "{}: the weights differ",
         files.name
     );
-    let choices = plan
-        .tables
-        .iter()
-        .map(|table| table.delays.len() as u64)
-        .product();
+    let choices = choices(plan);
     Measured {
         exported: exported.min(exported_run(&mut desk, files, last)),
         joint,
@@ -77,26 +74,34 @@ pub fn exported_run(desk: &mut Desk, files: &Files, last: u32) -> f64 {
     })
 }
 
-/// The microseconds of the single runs of all choices; of too many, some spread evenly over all are run and the time of all is reckoned.
-fn enumeration(plan: &Plan, choices: u64) -> f64 {
-    if choices <= MOST_CHOICES {
+/// The microseconds of the single runs of all choices; of too many, some are run and the time of all is reckoned.
+pub fn enumeration(plan: &Plan, choices: u64) -> f64 {
+    if !reckoned(choices) {
         return quickest(SECONDS, || drop(arrivals(plan)));
     }
-    let some = quickest(SECONDS, || {
-        for i in 0..SOME_CHOICES {
-            drop(single::run(plan, &choice(plan, i * choices / SOME_CHOICES)));
+    let numbers = some(choices);
+    let spent = quickest(SECONDS, || {
+        for number in &numbers {
+            drop(single::run(plan, &choice(plan, *number)));
         }
     });
-    some * choices as f64 / SOME_CHOICES as f64
+    spent * choices as f64 / SOME_CHOICES as f64
 }
 
-/// The choice with this number, the last train's index moving fastest.
-fn choice(plan: &Plan, number: u64) -> Vec<u8> {
-    let (mut left, mut indices) = (number, Vec::new());
-    for table in plan.tables.iter().rev() {
-        let delays = table.delays.len() as u64;
-        indices.insert(0, (left % delays) as u8);
-        left /= delays;
+/// Whether there are too many choices for the second program to run them all.
+pub fn reckoned(choices: u64) -> bool {
+    choices > MOST_CHOICES
+}
+
+/// The numbers of some choices of so many.
+pub fn some(choices: u64) -> Vec<u64> {
+    spread(SOME_CHOICES, choices)
+}
+
+/// So many numbers, or all that there are, spread evenly from 0 to the last below the end.
+pub fn spread(count: u64, end: u64) -> Vec<u64> {
+    if end <= count {
+        return (0..end).collect();
     }
-    indices
+    (0..count).map(|i| i * (end - 1) / (count - 1)).collect()
 }

@@ -3,7 +3,7 @@
 use crate::cases::Files;
 use crate::counts::counts;
 use crate::exported::Desk;
-use crate::measured::{exported_run, Measured, MOST_CHOICES, SOME_CHOICES};
+use crate::measured::{exported_run, reckoned, Measured, SOME_CHOICES};
 use crate::series::{case, series, Shape};
 use second::plan::Plan;
 
@@ -12,7 +12,7 @@ pub fn print_ratios(measured: &[(Files, Plan, Measured)]) {
     println!("| case | exported run | second program, joint run | enumeration | joint / exported | enumeration / exported |");
     println!("|---|---|---|---|---|---|");
     for (files, _, of) in measured {
-        let reckoned = if of.choices > MOST_CHOICES { "~ " } else { "" };
+        let reckoned = if reckoned(of.choices) { "~ " } else { "" };
         println!(
             "| {} | {} | {} | {reckoned}{} | {} | {reckoned}{} |",
             files.name,
