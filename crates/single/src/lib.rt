@@ -11,7 +11,7 @@ ghost use Rattle.single.specs.Asks.{FitsOf, Fits, never, notBefore, askI
 ghost use Rattle.single.specs.Trail.{movesIn, Trod, Blank, Besides, Left, Cleared};
 ghost use Rattle.single.specs.Going.{Going, AtTurn, soonestIn};
 ghost use Rattle.single.specs.Moves.{besideIn, waitsFor, Renewed, advancedIn};
-ghost use Rattle.single.specs.Runs.{Arrives};
+ghost use Rattle.single.specs.Runs.{Reads, Arrives};
 
 // The later of two minutes.
 fn later(a: u64, b: u64) -> u64
@@ -313,7 +313,8 @@ pub fn run_to(tables: &[u64], choice: &[u8], stop: u64, run: &mut [u64], asks: &
 // The minute in which the choice brings train k in, 65,535 for none by the last minute.
 pub fn arrival(tables: &[u64], choice: &[u8], k: u64) -> u64
     requires { ⌜ Planned (now tables) × (k < 4294967296) × (getD (now tables) 1 0 < 65535) ⌝ }
-    ensures { λ r. ⌜ Arrives (now (tables .entry)) (now (choice .entry)) k r ⌝ }
+    ensures words { λ r. ⌜ Reads (getD (ranIn (now (tables .entry)) (now (choice .entry)) (getD (now (tables .entry)) 1 0)) (16 + k) 0) r ⌝ }
+    ensures case { λ r. ⌜ Arrives (now (tables .entry)) (now (choice .entry)) k r ⌝ }
 {
     let mut run = [0u64; 544];
     let mut asks = [0u64; 16];

@@ -36,7 +36,7 @@ answered-requires : tie.Need-answered-requires
 answered-requires c κs = search needs
 
 returns-2 : tie.Need-returns-2
-returns-2 c = let s = c .before .before .before .before .before .before .before .before .before .before .before .before .before in let e = c .before .before .before .before .before .before .before .before .before .for-single .ensures in let ready = single-ready (s .args .case .now) (s .args .book .now) (s .args .choice .now) (s .args .train) e (c .before .before .before .before .before .before .before .f .given .1) in single-answered (s .args .case .now) (s .args .book .now) (s .args .choice .now) (s .args .train) e ready _ (c .before .before .before .before .fill .ensures .1 (ready .of) (ready .accepted) (ready .sizes)) (c .before .arrival .ensures) (c .answered .ensures)
+returns-2 c = let s = c .before .before .before .before .before .before .before .before .before .before .before .before .before in let e = c .before .before .before .before .before .before .before .before .before .for-single .ensures in let ready = single-ready (s .args .case .now) (s .args .book .now) (s .args .choice .now) (s .args .train) e (c .before .before .before .before .before .before .before .f .given .1) in single-answered (s .args .case .now) (s .args .book .now) (s .args .choice .now) (s .args .train) e ready _ (c .before .before .before .before .fill .ensures .1 (ready .of) (ready .accepted) (ready .sizes)) (c .before .arrival .ensures .1) (c .answered .ensures)
 
 pub lampreysong-single-spec : {M : Type 1} → statement M
 lampreysong-single-spec =

@@ -6,7 +6,7 @@ use native.Mathlib.Omega.{arith}
 use lib.ListN.{getD}
 use Rattle.moving.specs.Words.{ranIn}
 use Rattle.single.specs.Trail.{left-first}
-use Rattle.single.specs.Runs.{ran-arrives}
+use Rattle.single.specs.Runs.{Reads, ran-arrives}
 use borrow.Author.Needs.{needs}
 use Rattle.single.proofs.arrival.Statement.{statement}
 use Rattle.single.proofs.arrival.Tie as tie
@@ -48,7 +48,9 @@ returns c =
     let a = last .before .before .before .args in
     let word = reads (a .tables .now) (a .choice .now) _ (a .k) (last .at .result) (after .at2 .result)
     (last .at .ensures) (ran .run-to .ensures .0) (after .at2 .ensures) in
-    ran-arrives (a .tables .now) (a .choice .now) (a .k) 65535 (record { none = λ h. refl; some = λ h. absurd (h (sym word ∙ c .if1 .taken)) })
+    let minute : Reads (getD (ranIn (a .tables .now) (a .choice .now) (getD (a .tables .now) 1 0)) (16 + a .k) 0) 65535 =
+    record { none = λ h. refl; some = λ h. absurd (h (sym word ∙ c .if1 .taken)) } in
+    (minute, ran-arrives (a .tables .now) (a .choice .now) (a .k) 65535 minute)
 
 sub-result : tie.Need-sub-result
 sub-result c = search needs
@@ -61,8 +63,9 @@ returns-2 c =
     let a = last .before .before .before .args in
     let word = reads (a .tables .now) (a .choice .now) _ (a .k) (last .at .result) (after .at2 .result)
     (last .at .ensures) (ran .run-to .ensures .0) (after .at2 .ensures) in
-    ran-arrives (a .tables .now) (a .choice .now) (a .k) (after .at2 .result - 1)
-    (record { none = λ h. absurd (c .if1 .left (word ∙ h)); some = λ h. ap (λ (v : ℕ). v - 1) word })
+    let minute : Reads (getD (ranIn (a .tables .now) (a .choice .now) (getD (a .tables .now) 1 0)) (16 + a .k) 0) (after .at2 .result - 1) =
+    record { none = λ h. absurd (c .if1 .left (word ∙ h)); some = λ h. ap (λ (v : ℕ). v - 1) word } in
+    (minute, ran-arrives (a .tables .now) (a .choice .now) (a .k) (after .at2 .result - 1) minute)
 
 pub arrival-spec : {M : Type 1} → statement M
 arrival-spec =
