@@ -25,9 +25,9 @@ use Rattle.file_lookup.specs.declared.Files.the-variants as told
 use Rattle.file_lookup.specs.Answers.{sizesOf, filesOf}
 use Rattle.file_lookup.specs.Laws.{sound-unsound}
 use Rattle.file_arguments.specs.Arguments.{forSingle}
-use Rattle.single.specs.Runs.{Arrives}
-use Rattle.single.specs.Plan.{Planned, tables-planned}
-use Rattle.single.specs.Low.{tables-last}
+use Rattle.single_laws.specs.Runs.{Arrives}
+use Rattle.single_laws.specs.Plan.{Planned, tables-planned}
+use Rattle.single_laws.specs.Low.{tables-last}
 use Rattle.laying.specs.declared.Answer.{Answer}
 use Rattle.laying.specs.Answers.{answered}
 use Rattle.desk.specs.Answers.{singleAnswer}

@@ -19,7 +19,7 @@ use Rattle.theory_lists.specs.Below.{sum-span-suc}
 use Rattle.theory_codes.specs.Tables.{order, tables}
 use Rattle.theory_passes.specs.Bounds.{ByteDelays}
 use Rattle.theory_passes.specs.Order.{order-known}
-use Rattle.single.specs.Low.{Low, tables-low}
+use Rattle.single_laws.specs.Low.{Low, tables-low}
 use Rattle.weigh.specs.Weigh.{setWeight, Small}
 use Rattle.theory_codes.specs.Lookups.{wordFor, words-order, words-delays, table-trains, table-safety, table-weight}
 

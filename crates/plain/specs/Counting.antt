@@ -31,7 +31,7 @@ use Rattle.theory_codes.specs.Lookups.{table-trains, table-delays, table-weight
 use Rattle.theory_passes.specs.Unknown.{unknown-never}
 use Rattle.theory_plain.specs.Numbered.{map-same, times, indices, sizes, sizes-some, sizes-most, sizes-length, combinations-times, choices-count, choice-numbered}
 use Rattle.theory_plain.specs.Added.{added-more, part-most}
-use Rattle.single.specs.Shows.{minuteIn}
+use Rattle.single_laws.specs.Shows.{minuteIn}
 use Rattle.plain.specs.Words.{Timely, sizesIn, weightIn, Sized, talliedIn}
 use Rattle.plain.specs.Choosing.{indices-length}
 use Rattle.plain.specs.Tallying.{tallied-size, tallied-train, tallied-none}

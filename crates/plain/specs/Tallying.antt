@@ -12,7 +12,7 @@ use lib.Dec.{eqb}
 use borrow.Author.Tests.{eqb-true, eqb-false, ne-eqb}
 use Rattle.rules.specs.Lists.{fold, span}
 use Rattle.rules.specs.Demands.{isIn}
-use Rattle.single.specs.Shows.{minuteIn}
+use Rattle.single_laws.specs.Shows.{minuteIn}
 use Rattle.plain.specs.Words.{Timely, arrivedIn, talliedIn}
 
 -- the word, raised if the test passes

@@ -26,9 +26,9 @@ use Rattle.theory_passes.specs.Bounds.{ByteDelays}
 use Rattle.theory_plain.specs.Numbered.{times, indices, choices-count}
 use Rattle.words.specs.Spans.{onward}
 use Rattle.moving.specs.Words.{ranIn}
-use Rattle.single.specs.Shows.{minuteIn}
-use Rattle.single.specs.Plan.{tables-planned}
-use Rattle.single.specs.Runs.{ran-arrived}
+use Rattle.single_laws.specs.Shows.{minuteIn}
+use Rattle.single_laws.specs.Plan.{tables-planned}
+use Rattle.single_laws.specs.Runs.{ran-arrived}
 use Rattle.plain.specs.Words.{Timely, Plotted, sizesIn, addedIn, pastIn}
 use Rattle.plain.specs.Adding.{past-within}
 use Rattle.plain.specs.Counting.{Tallied, Arrivals, nth, part, tables-sized, combinations-in, chosen-choice, choice-sound, chosen-weight, tallied-next}

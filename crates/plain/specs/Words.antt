@@ -7,7 +7,7 @@ use lib.Dec.{leb, ltb, eqb}
 use Rattle.rules.specs.Lists.{fold, below}
 use Rattle.theory_plain.specs.Numbered.{times, indices}
 use Rattle.moving.specs.Words.{ranIn}
-use Rattle.single.specs.Plan.{Planned}
+use Rattle.single_laws.specs.Plan.{Planned}
 
 -- the sizes of the trains' tables
 unfoldable pub sizesIn : List ℕ → List ℕ

@@ -5,7 +5,7 @@ ghost use lib.ListN.{length, getD, take};
 ghost use Rattle.rules.specs.Lists.{fold};
 ghost use Rattle.theory_plain.specs.Numbered.{times, indices};
 ghost use Rattle.words.specs.Spans.{onward};
-ghost use Rattle.single.specs.Trail.{Left};
+ghost use Rattle.single_laws.specs.Trail.{Left};
 ghost use Rattle.plain.specs.Words.{Sized, sizesIn, weightIn, Timely, Plotted, arrivedIn, talliedIn, addedIn, pastIn};
 
 // How many choices there are: the sizes of the trains' tables multiplied.

@@ -6,16 +6,16 @@ ghost use lib.ListN.{length, getD, set, replicate};
 ghost use lib.Dec.{eqb};
 ghost use Rattle.rules.specs.Lists.{fold, below};
 ghost use Rattle.moving.specs.Words.{Small, trainsIn, orderIn, lets, freedIn, reopenedIn, waitsIn, startIn, ranIn, servedAt};
-ghost use Rattle.single.specs.Plan.{Planned};
-ghost use Rattle.single.specs.Asks.{FitsOf, Fits, never, notBefore, askIn, heldIn};
-ghost use Rattle.single.specs.Trail.{movesIn, Trod, Blank, Besides, Left, Cleared};
-ghost use Rattle.single.specs.Going.{Going, AtTurn, soonestIn};
-ghost use Rattle.single.specs.Moves.{besideIn, waitsFor, Renewed, advancedIn};
-ghost use Rattle.single.specs.Runs.{Reads, Arrives};
+ghost use Rattle.single_laws.specs.Plan.{Planned};
+ghost use Rattle.single_laws.specs.Asks.{FitsOf, Fits, never, notBefore, askIn, heldIn};
+ghost use Rattle.single_laws.specs.Trail.{movesIn, Trod, Blank, Besides, Left, Cleared};
+ghost use Rattle.single_laws.specs.Going.{Going, AtTurn, soonestIn};
+ghost use Rattle.single_laws.specs.Moves.{besideIn, waitsFor, Renewed, advancedIn};
+ghost use Rattle.single_laws.specs.Runs.{Reads, Arrives};
 
 // The later of two minutes.
 fn later(a: u64, b: u64) -> u64
-    ensures { λ r. ⌜ r ≡ Rattle.single.specs.Asks.later a b ⌝ }
+    ensures { λ r. ⌜ r ≡ Rattle.single_laws.specs.Asks.later a b ⌝ }
 {
     if a < b {
         return b;

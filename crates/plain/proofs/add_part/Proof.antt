@@ -7,7 +7,7 @@ use lib.ListN.{length}
 use borrow.Author.Needs.{needs}
 use Rattle.rules.specs.Lists.{fold}
 use Rattle.words.specs.Spans.{onward, fold-next, fold-end}
-use Rattle.single.specs.Trail.{Left, left-first}
+use Rattle.single_laws.specs.Trail.{Left, left-first}
 use Rattle.theory_plain.specs.Numbered.{times}
 use Rattle.plain.specs.Words.{sizesIn, addedIn, pastIn}
 use Rattle.plain.specs.Adding.{past-within}

@@ -3,8 +3,8 @@ use mathlib.Core.Path.{ap, _∙_}
 use Prim.Native.Nat.{ℕ, _+_, _%_, _/_}
 use native.Mathlib.Omega.{arith}
 use lib.ListN.{getD}
-use Rattle.single.specs.Going.{turn-known, turn-own, turn-minute}
-use Rattle.single.specs.Moves.{read-fits, read-size, read-going}
+use Rattle.single_laws.specs.Going.{turn-known, turn-own, turn-minute}
+use Rattle.single_laws.specs.Moves.{read-fits, read-size, read-going}
 use borrow.Author.Needs.{needs}
 use Rattle.single.proofs.admit.Statement.{statement}
 use Rattle.single.proofs.admit.Tie as tie

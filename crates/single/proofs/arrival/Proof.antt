@@ -5,8 +5,8 @@ use Prim.Native.Nat.{ℕ, _+_, _-_}
 use native.Mathlib.Omega.{arith}
 use lib.ListN.{getD}
 use Rattle.moving.specs.Words.{ranIn}
-use Rattle.single.specs.Trail.{left-first}
-use Rattle.single.specs.Runs.{Reads, ran-arrives}
+use Rattle.single_laws.specs.Trail.{left-first}
+use Rattle.single_laws.specs.Runs.{Reads, ran-arrives}
 use borrow.Author.Needs.{needs}
 use Rattle.single.proofs.arrival.Statement.{statement}
 use Rattle.single.proofs.arrival.Tie as tie

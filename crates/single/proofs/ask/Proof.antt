@@ -3,7 +3,7 @@ use mathlib.Core.Path.{_≡_, ap, _∙_}
 use Prim.Native.Nat.{ℕ, _+_, _/_, _≤_, _<_}
 use native.Mathlib.Omega.{arith}
 use lib.ListN.{getD}
-use Rattle.single.specs.Asks.{later-facts, ask-some, ask-none}
+use Rattle.single_laws.specs.Asks.{later-facts, ask-some, ask-none}
 use borrow.Author.Needs.{needs}
 use Rattle.single.proofs.ask.Statement.{statement}
 use Rattle.single.proofs.ask.Tie as tie
@@ -46,7 +46,7 @@ later-requires : tie.Need-later-requires
 later-requires c κs = search needs
 
 -- the minute of the turn
-minute-low : (due q t d : ℕ) → due < 8589934592 → q < 134217728 → d ≡ due → t ≡ Rattle.single.specs.Asks.later d (q / 1024) → t ≤ 8589934591
+minute-low : (due q t d : ℕ) → due < 8589934592 → q < 134217728 → d ≡ due → t ≡ Rattle.single_laws.specs.Asks.later d (q / 1024) → t ≤ 8589934591
 minute-low due q t d l m e h = omega (arith, h, later-facts d (q / 1024) .2 8589934591 (omega arith) (omega arith))
 
 mul-not-before : tie.Need-mul-not-before

@@ -1,5 +1,5 @@
 -- `single::begin` meets its contract: on what was cleared the choice begins as on words of 0. Assumes nothing.
-use Rattle.single.specs.Moves.{begins-fits, begins-words, begins-going}
+use Rattle.single_laws.specs.Moves.{begins-fits, begins-words, begins-going}
 use borrow.Author.Needs.{needs}
 use Rattle.single.proofs.begin.Statement.{statement}
 use Rattle.single.proofs.begin.Tie as tie

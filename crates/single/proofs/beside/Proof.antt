@@ -1,7 +1,7 @@
 -- `single::beside` meets its contract: its test is that of the definition. Assumes nothing.
 use mathlib.Core.Path.{sym}
 use borrow.Author.Tests.{eq-eqb, ne-eqb}
-use Rattle.single.specs.Moves.{besideIn}
+use Rattle.single_laws.specs.Moves.{besideIn}
 use borrow.Author.Needs.{needs}
 use Rattle.single.proofs.beside.Statement.{statement}
 use Rattle.single.proofs.beside.Tie as tie

@@ -3,7 +3,7 @@ use mathlib.Core.Path.{_≡_, sym, _∙_, subst}
 use Prim.Native.Nat.{ℕ, _+_, _-_, _≤_, _<_}
 use native.Mathlib.Omega.{arith}
 use Rattle.moving.specs.Words.{trainsIn}
-use Rattle.single.specs.Trail.{Trod, Clearing, clearing-first, clearing-next, clearing-end}
+use Rattle.single_laws.specs.Trail.{Trod, Clearing, clearing-first, clearing-next, clearing-end}
 use borrow.Author.Needs.{needs}
 use Rattle.single.proofs.clear.Statement.{statement}
 use Rattle.single.proofs.clear.Tie as tie

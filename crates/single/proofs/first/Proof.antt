@@ -6,7 +6,7 @@ use Prim.Native.Nat.{ℕ, _+_, _-_, _≤_, _<_}
 use native.Mathlib.Omega.{arith}
 use lib.ListN.{length, set}
 use Rattle.moving.specs.Words.{trainsIn, orderIn}
-use Rattle.single.specs.Moves.{RenewedTo, renewed-first, renewed-put}
+use Rattle.single_laws.specs.Moves.{RenewedTo, renewed-first, renewed-put}
 use borrow.Author.Needs.{needs}
 use Rattle.single.proofs.first.Statement.{statement}
 use Rattle.single.proofs.first.Tie as tie

@@ -2,8 +2,8 @@
 use mathlib.Core.Path.{sym}
 use Prim.Native.Nat.{_/_, _%_}
 use native.Mathlib.Omega.{arith}
-use Rattle.single.specs.Held.{reopened-settled}
-use Rattle.single.specs.Asks.{heldIn}
+use Rattle.single_laws.specs.Held.{reopened-settled}
+use Rattle.single_laws.specs.Asks.{heldIn}
 use borrow.Author.Needs.{needs}
 use Rattle.single.proofs.hold.Statement.{statement}
 use Rattle.single.proofs.hold.Tie as tie

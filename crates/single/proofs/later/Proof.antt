@@ -1,6 +1,6 @@
 -- `single::later` meets its contract: its test is that of the definition. Assumes nothing.
 use borrow.Author.Tests.{lt-ltb, le-ltb}
-use Rattle.single.specs.Asks.{later}
+use Rattle.single_laws.specs.Asks.{later}
 use Rattle.single.proofs.later.Statement.{statement}
 use Rattle.single.proofs.later.Tie as tie
 

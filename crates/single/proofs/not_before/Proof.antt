@@ -1,6 +1,6 @@
 -- `single::not_before` meets its contract: its test is that of the definition. Assumes nothing.
 use borrow.Author.Tests.{lt-ltb, le-ltb}
-use Rattle.single.specs.Asks.{notBefore}
+use Rattle.single_laws.specs.Asks.{notBefore}
 use borrow.Author.Needs.{needs}
 use Rattle.single.proofs.not_before.Statement.{statement}
 use Rattle.single.proofs.not_before.Tie as tie

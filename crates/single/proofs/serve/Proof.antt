@@ -1,6 +1,6 @@
 -- `single::serve` meets its contract: the train is let in, or held. Assumes nothing.
 use mathlib.Core.Path.{sym, _∙_}
-use Rattle.single.specs.Going.{turn-own, held-going, held-served}
+use Rattle.single_laws.specs.Going.{turn-own, held-going, held-served}
 use borrow.Author.Needs.{needs}
 use Rattle.single.proofs.serve.Statement.{statement}
 use Rattle.single.proofs.serve.Tie as tie

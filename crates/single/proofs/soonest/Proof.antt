@@ -6,7 +6,7 @@ use lib.ListN.{getD}
 use Rattle.rules.specs.Lists.{fold, below}
 use Rattle.words.specs.Spans.{onward, fold-all, fold-next, fold-end}
 use Rattle.moving.specs.Words.{nearer}
-use Rattle.single.specs.Going.{soonestIn}
+use Rattle.single_laws.specs.Going.{soonestIn}
 use borrow.Author.Needs.{needs}
 use Rattle.single.proofs.soonest.Statement.{statement}
 use Rattle.single.proofs.soonest.Tie as tie

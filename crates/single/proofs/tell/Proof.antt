@@ -6,8 +6,8 @@ use Prim.Native.Nat.{ℕ, _+_, _-_, _≤_, _<_}
 use native.Mathlib.Omega.{arith}
 use lib.ListN.{length, getD, set}
 use Rattle.moving.specs.Words.{trainsIn, orderIn}
-use Rattle.single.specs.Asks.{askIn}
-use Rattle.single.specs.Moves.{waitsFor, RenewedTo, renewed-first, renewed-none, renewed-put, renewed-keep, waits-outside, waits-test}
+use Rattle.single_laws.specs.Asks.{askIn}
+use Rattle.single_laws.specs.Moves.{waitsFor, RenewedTo, renewed-first, renewed-none, renewed-put, renewed-keep, waits-outside, waits-test}
 use borrow.Author.Needs.{needs}
 use Rattle.single.proofs.tell.Statement.{statement}
 use Rattle.single.proofs.tell.Tie as tie

@@ -5,7 +5,7 @@ use native.Mathlib.Omega.{arith}
 use Rattle.rules.specs.Lists.{fold, below}
 use Rattle.words.specs.Spans.{onward, fold-all, fold-next, fold-end}
 use Rattle.moving.specs.Words.{servedAt}
-use Rattle.single.specs.Going.{Going, Called, Onward, soonest-onward}
+use Rattle.single_laws.specs.Going.{Going, Called, Onward, soonest-onward}
 use borrow.Author.Needs.{needs}
 use Rattle.single.proofs.turns.Statement.{statement}
 use Rattle.single.proofs.turns.Tie as tie

@@ -5,7 +5,7 @@ use Prim.Native.Nat.{ℕ, suc, _+_, _-_, _*_, _≤_, _<_}
 use native.Mathlib.Omega.{arith}
 use lib.ListN.{length, getD, set}
 use lib.Seq.{getD-set-same}
-use Rattle.single.specs.Trail.{wayIn, Trod, Blank, Besides, besides-self, besides-block, besides-arrival, trod-next, trod-end, blank-arrival}
+use Rattle.single_laws.specs.Trail.{wayIn, Trod, Blank, Besides, besides-self, besides-block, besides-arrival, trod-next, trod-end, blank-arrival}
 use borrow.Author.Needs.{needs}
 use Rattle.single.proofs.wipe.Statement.{statement}
 use Rattle.single.proofs.wipe.Tie as tie

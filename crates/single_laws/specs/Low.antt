@@ -27,7 +27,7 @@ use Rattle.moving.specs.Words.{Small}
 use Rattle.theory_codes.specs.Places.{known-few}
 use Rattle.theory_codes.specs.Lookups.{table-minute}
 use Rattle.theory_codes.specs.Partners.{partner-few}
-use Rattle.single.specs.Asking.{last-known}
+use Rattle.single_laws.specs.Asking.{last-known}
 
 abbrev pub Low : ℕ → Type 0
 Low v = v < 2048

@@ -15,7 +15,7 @@ use Rattle.theory_codes.specs.Partners.{partner-low, first-alone, partner-back}
 use Rattle.theory_passes.specs.Order.{Ordered, earlier, earlier-self, order-ordered, order-known, order-length}
 use Rattle.theory_passes.specs.Bounds.{ByteDelays}
 use Rattle.moving.specs.Words.{Small, trainsIn, orderIn, partnerOf}
-use Rattle.single.specs.Low.{words-small}
+use Rattle.single_laws.specs.Low.{words-small}
 
 pub record Planned (T : List ℕ) : Type 0 where
   pub small : Small T

@@ -21,8 +21,8 @@ use Rattle.theory_lists.specs.Below.{sum-below-in}
 use Rattle.theory_lists.specs.Kept.{keep-passes}
 use Rattle.theory_passes.specs.Passes.{asksFor, admits, goes, passTrain}
 use Rattle.theory_passes.specs.Walk.{asksFor-train}
-use Rattle.single.specs.Sums.{sum-below, sum-change, orElse, minuteOf-append, minuteOf-same}
-use Rattle.single.specs.Shows.{standsIn, blockIn, endIn, blockTerm, standsSum, blocksSum, Shows}
+use Rattle.single_laws.specs.Sums.{sum-below, sum-change, orElse, minuteOf-append, minuteOf-same}
+use Rattle.single_laws.specs.Shows.{standsIn, blockIn, endIn, blockTerm, standsSum, blocksSum, Shows}
 
 -- a sum of two parts, of which the first changes in one term
 regroup : (x s′ b′ s b o q q′ : ℕ) → x ≡ s′ + b′ → s′ + o ≡ s + q′ → q′ ≡ q → b′ ≡ b → x + o ≡ s + b + q

@@ -11,12 +11,12 @@ use lib.Dec.{ltb, eqb}
 use borrow.Author.Tests.{eqb-true, eqb-false, lt-ltb, le-ltb, eq-eqb, ne-eqb}
 use Rattle.moving.specs.Words.{runSize, trainsIn, orderIn, partnerOf, lets, enteredIn, startIn}
 use Rattle.moving.specs.Words.{turnMinute, turnElement, turnRank, servedAt}
-use Rattle.single.specs.Plan.{Planned}
-use Rattle.single.specs.Entering.{entered-size, entered-place, entered-due, entered-others, entered-blocks}
-use Rattle.single.specs.Waiting.{firstDue, begun-length, begun-other, begun-own}
-use Rattle.single.specs.Asks.{nextIn, dueIn, Fits, never, askIn, Asks, ask-asks, asks-later, asks-other}
-use Rattle.single.specs.Trail.{movesIn, wayIn, Cleared, start-again}
-use Rattle.single.specs.Going.{Going, Called, turn-known, turn-own, turn-aimed, turn-serves, turn-apart}
+use Rattle.single_laws.specs.Plan.{Planned}
+use Rattle.single_laws.specs.Entering.{entered-size, entered-place, entered-due, entered-others, entered-blocks}
+use Rattle.single_laws.specs.Waiting.{firstDue, begun-length, begun-other, begun-own}
+use Rattle.single_laws.specs.Asks.{nextIn, dueIn, Fits, never, askIn, Asks, ask-asks, asks-later, asks-other}
+use Rattle.single_laws.specs.Trail.{movesIn, wayIn, Cleared, start-again}
+use Rattle.single_laws.specs.Going.{Going, Called, turn-known, turn-own, turn-aimed, turn-serves, turn-apart}
 
 -- ---- who is to be served anew
 

@@ -21,8 +21,8 @@ use Rattle.theory_codes.specs.Places.{place-code, same-element, head-code, know
 use Rattle.theory_passes.specs.Elements.{ahead-known}
 use Rattle.moving.specs.Words.{wanted}
 use Rattle.theory_codes.specs.Lookups.{table-last}
-use Rattle.single.specs.Looks.{look-next}
-use Rattle.single.specs.Shows.{standsIn, Shows}
+use Rattle.single_laws.specs.Looks.{look-next}
+use Rattle.single_laws.specs.Shows.{standsIn, Shows}
 
 module _ (C : Case) (sound : Sound C) where
   pub few : {k : ℕ} → k < length (C .trains) → k < 8

@@ -18,7 +18,7 @@ use Rattle.theory_lists.specs.Sums.{sum-keep}
 use Rattle.theory_codes.specs.Codes.{placeOf}
 use Rattle.theory_passes.specs.Passes.{cleared}
 use Rattle.moving.specs.Words.{runSize}
-use Rattle.single.specs.Sums.{sum-below}
+use Rattle.single_laws.specs.Sums.{sum-below}
 
 -- the mark of train k, standing
 abbrev pub standsIn : List ℕ → ℕ → Mark

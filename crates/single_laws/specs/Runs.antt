@@ -27,11 +27,11 @@ use Rattle.moving.specs.Words.{runSize, orderIn, servedIn, elementIn, minuteIn,
 use Rattle.moving.specs.Turns.{fold-last}
 use Rattle.theory_lists.specs.Below.{getD-below}
 use Rattle.theory_codes.specs.Lookups.{table-trains, table-minute, table-order}
-use Rattle.single.specs.Shows as shows
-use Rattle.single.specs.Shows.{Shows, shows-cleared}
-use Rattle.single.specs.Asking.{few}
-use Rattle.single.specs.Serving.{served-shows}
-use Rattle.single.specs.Waiting.{start-shows}
+use Rattle.single_laws.specs.Shows as shows
+use Rattle.single_laws.specs.Shows.{Shows, shows-cleared}
+use Rattle.single_laws.specs.Asking.{few}
+use Rattle.single_laws.specs.Serving.{served-shows}
+use Rattle.single_laws.specs.Waiting.{start-shows}
 
 -- r is the answer to a choice x for train k, whenever T is the tables of a sound case and x a choice of it
 abbrev pub Arrives : List ℕ → List ℕ → ℕ → ℕ → Type 0

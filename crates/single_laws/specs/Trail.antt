@@ -12,7 +12,7 @@ use lib.Dec.{eqb}
 use borrow.Author.Tests.{eqb-true, eqb-false}
 use Rattle.theory_lists.specs.Writes.{zeros-at}
 use Rattle.moving.specs.Words.{runSize, trainsIn, startIn}
-use Rattle.single.specs.Waiting.{begun, begun-length, begun-other, begun-own}
+use Rattle.single_laws.specs.Waiting.{begun, begun-length, begun-other, begun-own}
 
 -- sixteen words beside those of the run: the next turn of each train in order, then how many elements each train has entered
 abbrev pub asksSize : ℕ

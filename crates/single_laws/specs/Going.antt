@@ -16,9 +16,9 @@ use Rattle.theory_codes.specs.Codes.{nowhere}
 use Rattle.moving.specs.Words.{trainsIn, orderIn, wanted, lets, enteredIn, servedIn, nearer}
 use Rattle.moving.specs.Words.{turnMinute, turnElement, turnRank, servedAt}
 use Rattle.moving.specs.Turns.{least-most, least-each, least-among, fold-skip}
-use Rattle.single.specs.Plan.{Planned}
-use Rattle.single.specs.Asks.{nextIn, dueIn, never, heldIn, Asks, asks-later, asks-held}
-use Rattle.single.specs.Trail.{movesIn, wayIn, Left}
+use Rattle.single_laws.specs.Plan.{Planned}
+use Rattle.single_laws.specs.Asks.{nextIn, dueIn, never, heldIn, Asks, asks-later, asks-held}
+use Rattle.single_laws.specs.Trail.{movesIn, wayIn, Left}
 
 -- what holds before turn q
 pub record Going (T w a : List ℕ) (q : ℕ) : Type 0 where

@@ -13,8 +13,8 @@ use Rattle.theory_lists.specs.Every.{Every}
 use Rattle.theory_lists.specs.Below.{every-below}
 use Rattle.moving.specs.Words.{trainsIn, holding, crowd, partnerOf, across, lets, enteredIn, freedIn, reopenedIn}
 use Rattle.moving.specs.Turns.{least-most, least-each, least-from}
-use Rattle.single.specs.Sums.{sum-below}
-use Rattle.single.specs.Entering.{entered-others, entered-blocks}
+use Rattle.single_laws.specs.Sums.{sum-below}
+use Rattle.single_laws.specs.Entering.{entered-others, entered-blocks}
 
 module _ (T w : List ℕ) where
   -- ---- while nobody moves

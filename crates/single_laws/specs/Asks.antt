@@ -9,8 +9,8 @@ use lib.ListN.{length, getD}
 use lib.Dec.{ltb}
 use borrow.Author.Tests.{ltb-true, ltb-false, lt-ltb, le-ltb}
 use Rattle.moving.specs.Words.{trainsIn, orderIn, partnerOf, lets, enteredIn, reopenedIn, turn, turnMinute, turnElement, turnRank}
-use Rattle.single.specs.Entering.{entered-others}
-use Rattle.single.specs.Held.{reopened-settled, held-still}
+use Rattle.single_laws.specs.Entering.{entered-others}
+use Rattle.single_laws.specs.Held.{reopened-settled, held-still}
 
 -- the code of the element that train k goes to next, and the minute in which it is due
 abbrev pub nextIn : List ℕ → List ℕ → ℕ → ℕ

@@ -25,10 +25,10 @@ use Rattle.theory_codes.specs.Codes.{placeOf}
 use Rattle.theory_codes.specs.Tables.{tables}
 use Rattle.moving.specs.Words.{runSize, waitsIn, startIn}
 use Rattle.theory_codes.specs.Lookups.{table-first}
-use Rattle.single.specs.Looks.{look-delay}
-use Rattle.single.specs.Sums.{sum-below}
-use Rattle.single.specs.Shows.{minuteIn, standsIn, blockIn, blockTerm, blocksSum, Shows}
-use Rattle.single.specs.Asking.{few}
+use Rattle.single_laws.specs.Looks.{look-delay}
+use Rattle.single_laws.specs.Sums.{sum-below}
+use Rattle.single_laws.specs.Shows.{minuteIn, standsIn, blockIn, blockTerm, blocksSum, Shows}
+use Rattle.single_laws.specs.Asking.{few}
 
 module _ (T x : List ℕ) where
   -- the due minute of a train of the choice

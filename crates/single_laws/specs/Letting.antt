@@ -31,8 +31,8 @@ use Rattle.theory_codes.specs.Partners.{paired-code, partner-low}
 use Rattle.theory_passes.specs.Passes.{admits}
 use Rattle.theory_passes.specs.Single.{InOrder}
 use Rattle.moving.specs.Words.{holding, crowd, partnerOf, across, lets}
-use Rattle.single.specs.Sums.{sum-below, sum-term}
-use Rattle.single.specs.Shows.{standsIn, endIn, blockIn, blockTerm, standsSum, blocksSum, Shows}
+use Rattle.single_laws.specs.Sums.{sum-below, sum-term}
+use Rattle.single_laws.specs.Shows.{standsIn, endIn, blockIn, blockTerm, standsSum, blocksSum, Shows}
 
 -- of two parts that are at most 1 together, the second has a term of 1
 nothing-else : (all first second stand block term : ℕ) → all ≤ 1 → all ≡ first + second → second ≡ stand + block → term ≤ stand → term ≡ 1 → first ≡ 0

@@ -26,13 +26,13 @@ use Rattle.theory_passes.specs.Single.{InOrder}
 use Rattle.moving.specs.Words.{lets, enteredIn, servedIn}
 use Rattle.theory_codes.specs.Places.{same-codes}
 use Rattle.theory_codes.specs.Lookups.{table-safety}
-use Rattle.single.specs.Looks.{look-stay}
-use Rattle.single.specs.Sums.{sum-below, sum-change, sum-term, orElse, orElse-none}
-use Rattle.single.specs.Shows.{standsIn, blockIn, endIn, blockTerm, standsSum, blocksSum, minuteIn, Shows}
-use Rattle.single.specs.Passing.{going, pass-sums, pass-arrived}
-use Rattle.single.specs.Asking.{few, goal-last, wanted-asks}
-use Rattle.single.specs.Letting.{lets-admits}
-use Rattle.single.specs.Entering.{entered-size, entered-place, entered-due, entered-others, entered-arrival, entered-blocks, entered-block, entered-outside}
+use Rattle.single_laws.specs.Looks.{look-stay}
+use Rattle.single_laws.specs.Sums.{sum-below, sum-change, sum-term, orElse, orElse-none}
+use Rattle.single_laws.specs.Shows.{standsIn, blockIn, endIn, blockTerm, standsSum, blocksSum, minuteIn, Shows}
+use Rattle.single_laws.specs.Passing.{going, pass-sums, pass-arrived}
+use Rattle.single_laws.specs.Asking.{few, goal-last, wanted-asks}
+use Rattle.single_laws.specs.Letting.{lets-admits}
+use Rattle.single_laws.specs.Entering.{entered-size, entered-place, entered-due, entered-others, entered-arrival, entered-blocks, entered-block, entered-outside}
 
 -- ---- numbers
 
