@@ -124,13 +124,13 @@ fn body_verdict(earlier: &[u8], s: Seen, tag: usize, b: &[u8]) -> usize
         return file_bodies::station_verdict(b);
     }
     if tag == limits::TRACK {
-        return file_bodies::track_verdict(earlier, base, s.tracks, s.stations, b);
+        return file_tracks::track_verdict(earlier, base, s.tracks, s.stations, b);
     }
     if tag == limits::TRAIN {
-        return file_bodies::train_verdict(earlier, base, s.tracks, s.stations, b);
+        return file_trains::train_verdict(earlier, base, s.tracks, s.stations, b);
     }
     if tag == limits::COUPLE {
-        return file_bodies::couple_verdict(earlier, base, s.tracks, s.couples, b);
+        return file_tracks::couple_verdict(earlier, base, s.tracks, s.couples, b);
     }
     file_bodies::table_verdict(s.tables, s.kind, b)
 }
