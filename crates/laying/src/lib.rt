@@ -70,7 +70,7 @@ fn fill(list: &[u64], n: usize, trains: usize, ws: &[u64], rows: &mut [u8], weig
     requires { ⌜ (n ≤ 1024) × (2048 ≤ length (now list)) × (5040 ≤ length (now ws)) × (16384 ≤ length (now rows)) × (40320 ≤ length (now weights)) ⌝ }
     ensures { λ _. ⌜ Filled n trains (now (list .entry)) (now (ws .entry)) (now (rows .entry)) (now (weights .entry)) (now (rows .exit)) (now (weights .exit)) ⌝ }
 {
-    out_images::put_rows(list, n, trains as u64, rows);
+    out_rows::put_rows(list, n, trains as u64, rows);
     out_images::put_weights(ws, weights);
 }
 

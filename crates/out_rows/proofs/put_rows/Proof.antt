@@ -1,4 +1,4 @@
--- `out_images::put_rows` meets its contract. The loop keeps the first `i` rows written into cleared memory, a row at each multiple of 16. Assumes nothing.
+-- `out_rows::put_rows` meets its contract. The loop keeps the first `i` rows written into cleared memory, a row at each multiple of 16. Assumes nothing.
 use mathlib.Core.Path.{_≡_, refl, ap, _∙_}
 use mathlib.Core.List.{List}
 use Prim.Native.Nat.{ℕ, _+_, _-_, _*_, _≤_}
@@ -6,10 +6,10 @@ use native.Mathlib.Omega.{arith}
 use lib.ListN.{length, getD}
 use lib.Seq.{sets}
 use borrow.Author.Needs.{needs}
 use Rattle.out_images.specs.Rows.{rowBytes, imageOfRows}
 use Rattle.out_images.proofs.Laws.{rows-more, rows-none, rows-filled, rows-held}
-use Rattle.out_images.proofs.put_rows.Statement.{statement}
-use Rattle.out_images.proofs.put_rows.Tie as tie
+use Rattle.out_rows.proofs.put_rows.Statement.{statement}
+use Rattle.out_rows.proofs.put_rows.Tie as tie
 
 abbrev Inv-loop : tie.InvT-loop
 Inv-loop rows m n out₀ i₀ out i = (i ≤ m) × (out ≡ sets out₀ 0 (imageOfRows n i rows)) × (length out ≡ length out₀)

@@ -1,8 +1,8 @@
--- `out_images::set_byte` meets its contract. Each way follows the test of `setByte`. Assumes nothing.
+-- `out_rows::set_byte` meets its contract. Each way follows the test of `setByte`. Assumes nothing.
 use borrow.Author.Tests.{lt-ltb, le-ltb}
 use borrow.Author.Needs.{needs}
-use Rattle.out_images.proofs.set_byte.Statement.{statement}
-use Rattle.out_images.proofs.set_byte.Tie as tie
+use Rattle.out_rows.proofs.set_byte.Statement.{statement}
+use Rattle.out_rows.proofs.set_byte.Tie as tie
 
 cast-result : tie.Need-cast-result
 cast-result c = search needs

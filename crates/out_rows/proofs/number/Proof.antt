@@ -1,11 +1,11 @@
--- `out_images::number` meets its contract. Each way follows one test of `placeOf`; the way out and the outside have number 0. Assumes nothing.
+-- `out_rows::number` meets its contract. Each way follows one test of `placeOf`; the way out and the outside have number 0. Assumes nothing.
 use lib.Dec.{eqb}
 use borrow.Author.Tests.{lt-ltb, le-ltb}
 use borrow.Author.Needs.{needs}
 use Rattle.theory_codes.specs.Codes.{placeOf}
 use Rattle.out_images.proofs.Laws.{number-none}
-use Rattle.out_images.proofs.number.Statement.{statement}
-use Rattle.out_images.proofs.number.Tie as tie
+use Rattle.out_rows.proofs.number.Statement.{statement}
+use Rattle.out_rows.proofs.number.Tie as tie
 
 cast-result : tie.Need-cast-result
 cast-result c = search needs

@@ -1,13 +1,13 @@
--- `out_images::put_row` meets its contract. The mark's bytes and then the cover's are the row's. Assumes nothing.
+-- `out_rows::put_row` meets its contract. The mark's bytes and then the cover's are the row's. Assumes nothing.
 use mathlib.Core.Path.{ap, _∙_}
 use mathlib.Core.List.{List}
 use Prim.Native.Nat.{ℕ, _+_}
 use lib.Seq.{sets}
 use borrow.Author.Needs.{needs}
 use Rattle.out_images.specs.Rows.{coverBytes}
 use Rattle.out_images.proofs.Laws.{row-parts}
-use Rattle.out_images.proofs.put_row.Statement.{statement}
-use Rattle.out_images.proofs.put_row.Tie as tie
+use Rattle.out_rows.proofs.put_row.Statement.{statement}
+use Rattle.out_rows.proofs.put_row.Tie as tie
 
 put-mark-requires : tie.Need-put-mark-requires
 put-mark-requires c κs = search needs

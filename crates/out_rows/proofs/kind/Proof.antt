@@ -1,8 +1,8 @@
--- `out_images::kind` meets its contract. Each way follows one test of `placeOf`. Assumes nothing.
+-- `out_rows::kind` meets its contract. Each way follows one test of `placeOf`. Assumes nothing.
 use borrow.Author.Tests.{lt-ltb, le-ltb, eq-eqb, ne-eqb}
 use Rattle.theory_codes.specs.Codes.{placeOf}
-use Rattle.out_images.proofs.kind.Statement.{statement}
-use Rattle.out_images.proofs.kind.Tie as tie
+use Rattle.out_rows.proofs.kind.Statement.{statement}
+use Rattle.out_rows.proofs.kind.Tie as tie
 
 returns : tie.Need-returns
 unfolding placeOf

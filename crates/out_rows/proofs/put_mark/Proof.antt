@@ -1,4 +1,4 @@
--- `out_images::put_mark` meets its contract. Eight stores, each of what `markOf` says, are one writing of the state's bytes. Assumes nothing.
+-- `out_rows::put_mark` meets its contract. Eight stores, each of what `markOf` says, are one writing of the state's bytes. Assumes nothing.
 use mathlib.Core.Path.{refl, sym, ap, _∙_}
 use Prim.Native.Nat.{ℕ, _/_, _%_}
 use native.Mathlib.Omega.{arith}
@@ -6,11 +6,11 @@ use native.Mathlib.Nat.{div-one}
 use lib.ListN.{length-set}
 use borrow.Author.Needs.{needs}
 use Rattle.theory_codes.specs.Codes.{markOf}
 use Rattle.out_images.proofs.Laws.{marks-block}
 use Rattle.out_images.proofs.Laws.{sets-eight}
 use Rattle.out_images.specs.Rows.{markBytes}
-use Rattle.out_images.proofs.put_mark.Statement.{statement}
-use Rattle.out_images.proofs.put_mark.Tie as tie
+use Rattle.out_rows.proofs.put_mark.Statement.{statement}
+use Rattle.out_rows.proofs.put_mark.Tie as tie
 
 low-requires : tie.Need-low-requires
 low-requires c κs = search needs

@@ -1,11 +1,11 @@
--- `out_images::put_cover` meets its contract. Eight stores, one for each train, are one writing of the cover's bytes. Assumes nothing.
+-- `out_rows::put_cover` meets its contract. Eight stores, one for each train, are one writing of the cover's bytes. Assumes nothing.
 use native.Mathlib.Omega.{arith}
 use lib.ListN.{length-set}
 use borrow.Author.Needs.{needs}
 use Rattle.out_images.proofs.Laws.{sets-eight}
 use Rattle.out_images.specs.Rows.{coverBytes}
-use Rattle.out_images.proofs.put_cover.Statement.{statement}
-use Rattle.out_images.proofs.put_cover.Tie as tie
+use Rattle.out_rows.proofs.put_cover.Statement.{statement}
+use Rattle.out_rows.proofs.put_cover.Tie as tie
 
 set-byte-requires : tie.Need-set-byte-requires
 set-byte-requires c κs = search needs
