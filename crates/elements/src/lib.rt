@@ -33,7 +33,7 @@ fn trains(
     let mut v = w;
     while j < n {
         let k = words::at(tables, 8 + j);
-        v = visiting::visit(
+        v = stirring::visit(
             rows,
             v,
             tmp,

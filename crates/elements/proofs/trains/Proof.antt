@@ -13,7 +13,7 @@ use Rattle.elements.proofs.trains.Tie as tie
 use Rattle.elements.proofs.trains.Reads as reads
 use Rattle.elements.proofs.trains.Lts as lts
 use Rattle.words.proofs.at.Reads as at-reads
-use Rattle.visiting.proofs.visit.Reads as visit-reads
+use Rattle.stirring.proofs.visit.Reads as visit-reads
 
 abbrev Inv-loop : tie.InvT-loop
 Inv-loop rows₀ w tmp₀ tables met₀ held₀ entering₀ notes₀ weights₀ t e n j₀ v₀ rows tmp met held entering notes weights j v =

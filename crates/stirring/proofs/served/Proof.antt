@@ -1,4 +1,4 @@
--- `visiting::served` meets its contract, by `served-law` from what its four calls ensure. Assumes nothing.
+-- `stirring::served` meets its contract, by `served-law` from what its four calls ensure. Assumes nothing.
 use mathlib.Core.Path.{_≡_, sym, _∙_}
 use Prim.Native.Nat.{_+_, _*_}
 use native.Mathlib.Omega.{arith}
@@ -10,17 +10,17 @@ use Rattle.serving.specs.Passing.{lent-space}
 use Rattle.waiting.specs.Calm.{Settled}
 use Rattle.waiting.specs.Notes.{stirIn, askedIn}
 use Rattle.waiting.specs.Telling.{stir-is}
 use Rattle.visiting.specs.Settling.{job-stands}
 use Rattle.visiting.specs.Visiting.{served-law, asked-is}
 use borrow.Author.Needs.{needs}
-use Rattle.visiting.proofs.served.Statement.{statement}
-use Rattle.visiting.proofs.served.Tie as tie
-use Rattle.visiting.proofs.served.Reads as reads
-use Rattle.visiting.proofs.served.Lts as lts
+use Rattle.stirring.proofs.served.Statement.{statement}
+use Rattle.stirring.proofs.served.Tie as tie
+use Rattle.stirring.proofs.served.Reads as reads
+use Rattle.stirring.proofs.served.Lts as lts
 use Rattle.asking.proofs.assign.Reads as assign-reads
 use Rattle.serving.proofs.pass.Reads as pass-reads
 use Rattle.visiting.proofs.arrive.Reads as arrive-reads
 use Rattle.visiting.proofs.settle.Reads as settle-reads
 
 mul-s : tie.Need-mul-s
 mul-s c = search needs

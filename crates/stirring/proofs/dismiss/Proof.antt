@@ -1,11 +1,11 @@
--- `visiting::dismiss` meets its contract: its two words are written. Assumes nothing.
+-- `stirring::dismiss` meets its contract: its two words are written. Assumes nothing.
 use native.Mathlib.Omega.{arith}
 use lib.ListN.{length-set}
 use borrow.Author.Needs.{needs}
-use Rattle.visiting.proofs.dismiss.Statement.{statement}
-use Rattle.visiting.proofs.dismiss.Tie as tie
-use Rattle.visiting.proofs.dismiss.Reads as reads
-use Rattle.visiting.proofs.dismiss.Lts as lts
+use Rattle.stirring.proofs.dismiss.Statement.{statement}
+use Rattle.stirring.proofs.dismiss.Tie as tie
+use Rattle.stirring.proofs.dismiss.Reads as reads
+use Rattle.stirring.proofs.dismiss.Lts as lts
 
 mul-notes : tie.Need-mul-notes
 mul-notes c = search needs

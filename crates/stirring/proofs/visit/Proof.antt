@@ -1,4 +1,4 @@
--- `visiting::visit` meets its contract: a refused outcome, a pair that nothing stirred, one of which no row asks or none was stirred, and else a pass. Assumes
+-- `stirring::visit` meets its contract: a refused outcome, a pair that nothing stirred, one of which no row asks or none was stirred, and else a pass. Assumes
 -- nothing.
 use mathlib.Core.Path.{_≡_, refl, sym, subst, _∙_}
 use mathlib.Core.Bool.{false}
@@ -10,18 +10,18 @@ use Rattle.rows.specs.Rows.{rowsOf, rowsIn, rowAt}
 use Rattle.rows.specs.Written.{row-of}
 use Rattle.asking.specs.Ask.{asksOf}
 use Rattle.waiting.specs.Telling.{stir-is}
 use Rattle.visiting.specs.Visit.{read, passOf, Keyed, Noted, Seen}
 use Rattle.visiting.specs.Keys.{noted-placed, keyed-by, stirs-reach, unstirred}
 use Rattle.visiting.specs.Unmoved.{visit-over, visit-still, visit-none, visit-unstirred}
 use borrow.Author.Needs.{needs}
-use Rattle.visiting.proofs.visit.Statement.{statement}
-use Rattle.visiting.proofs.visit.Tie as tie
-use Rattle.visiting.proofs.visit.Reads as reads
-use Rattle.visiting.proofs.visit.Lts as lts
+use Rattle.stirring.proofs.visit.Statement.{statement}
+use Rattle.stirring.proofs.visit.Tie as tie
+use Rattle.stirring.proofs.visit.Reads as reads
+use Rattle.stirring.proofs.visit.Lts as lts
 use Rattle.asking.proofs.next.Reads as next-reads
-use Rattle.visiting.proofs.dismiss.Reads as dismiss-reads
-use Rattle.visiting.proofs.seek.Reads as seek-reads
-use Rattle.visiting.proofs.served.Reads as served-reads
+use Rattle.stirring.proofs.dismiss.Reads as dismiss-reads
+use Rattle.stirring.proofs.seek.Reads as seek-reads
+use Rattle.stirring.proofs.served.Reads as served-reads
 
 returns : tie.Need-returns
 returns c =

@@ -1,13 +1,13 @@
--- `visiting::seek` meets its contract: few rows are asked, and of many the first that is reached is the first that asks. Assumes nothing.
+-- `stirring::seek` meets its contract: few rows are asked, and of many the first that is reached is the first that asks. Assumes nothing.
 use Prim.Native.Nat.{_+_, _*_}
 use native.Mathlib.Omega.{arith}
 use Rattle.rows.specs.Rows.{rowsIn}
 use Rattle.visiting.specs.Keys.{keyed, found-reached}
 use borrow.Author.Needs.{needs}
-use Rattle.visiting.proofs.seek.Statement.{statement}
-use Rattle.visiting.proofs.seek.Tie as tie
-use Rattle.visiting.proofs.seek.Reads as reads
-use Rattle.visiting.proofs.seek.Lts as lts
+use Rattle.stirring.proofs.seek.Statement.{statement}
+use Rattle.stirring.proofs.seek.Tie as tie
+use Rattle.stirring.proofs.seek.Reads as reads
+use Rattle.stirring.proofs.seek.Lts as lts
 use Rattle.asking.proofs.before.Reads as before-reads
 use Rattle.asking.proofs.first.Reads as first-reads
 use Rattle.asking.proofs.first_reached.Reads as first-reached-reads
