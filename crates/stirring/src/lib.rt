@@ -37,7 +37,7 @@ fn served(
 {
     let s = rows[i * 2];
     let q = asking::assign(tables, t, e, k, s);
-    let z = serving::pass(rows, n, i, tmp, met, held, entering, key, u, q);
+    let z = passing::pass(rows, n, i, tmp, met, held, entering, key, u, q);
     visiting::arrive(tables, entering, z.entering, weights, q);
     visiting::settle(tables, notes, q, s / 4096 % 128, z.moved);
     z.place

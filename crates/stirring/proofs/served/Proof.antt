@@ -18,7 +18,7 @@ use Rattle.stirring.proofs.served.Tie as tie
 use Rattle.stirring.proofs.served.Reads as reads
 use Rattle.stirring.proofs.served.Lts as lts
 use Rattle.asking.proofs.assign.Reads as assign-reads
-use Rattle.serving.proofs.pass.Reads as pass-reads
+use Rattle.passing.proofs.pass.Reads as pass-reads
 use Rattle.visiting.proofs.arrive.Reads as arrive-reads
 use Rattle.visiting.proofs.settle.Reads as settle-reads
 

@@ -1,19 +1,19 @@
--- `serving::pass` meets its contract, by `pass-law` from what its four calls ensure. Assumes nothing.
+-- `passing::pass` meets its contract, by `pass-law` from what its four calls ensure. Assumes nothing.
 use mathlib.Core.Path.{sym}
 use native.Mathlib.Omega.{arith}
 use lib.Seq.{length-take-le}
 use Rattle.asking.specs.Ask.{stirsOf}
 use Rattle.serving.specs.Outputs.{two-bounds}
 use Rattle.serving.specs.Passing.{pass-law, pass-went}
 use borrow.Author.Needs.{needs}
-use Rattle.serving.proofs.pass.Statement.{statement}
-use Rattle.serving.proofs.pass.Tie as tie
-use Rattle.serving.proofs.pass.Reads as reads
-use Rattle.serving.proofs.pass.Lts as lts
+use Rattle.passing.proofs.pass.Statement.{statement}
+use Rattle.passing.proofs.pass.Tie as tie
+use Rattle.passing.proofs.pass.Reads as reads
+use Rattle.passing.proofs.pass.Lts as lts
 use Rattle.asking.proofs.meet.Reads as meet-reads
 use Rattle.rows.proofs.copy.Reads as copy-reads
 use Rattle.rows.proofs.enter.Reads as enter-reads
-use Rattle.serving.proofs.walk.Reads as walk-reads
+use Rattle.passing.proofs.walk.Reads as walk-reads
 
 meet-requires : tie.Need-meet-requires
 meet-requires c κs = search needs

@@ -1,4 +1,4 @@
--- `serving::walk` meets its contract. The invariant: both outputs have what comes of the first i rows. Assumes nothing.
+-- `passing::walk` meets its contract. The invariant: both outputs have what comes of the first i rows. Assumes nothing.
 use mathlib.Core.Path.{_≡_, refl}
 use Prim.Native.Nat.{_+_, _-_, _*_, _≤_, _<_}
 use native.Mathlib.Omega.{arith}
@@ -8,17 +8,17 @@ use Rattle.theory_lists.specs.Every.{Every}
 use Rattle.rows.specs.Rows.{words, rowsOf, rowsIn, rowAt}
 use Rattle.theory_lists.specs.Writes.{put-length, put-fits}
 use Rattle.asking.specs.Ask.{stirsOf}
 use Rattle.serving.specs.Pass.{holdBy, enterBy, metIn, Went, Two}
 use Rattle.serving.specs.Passing.{two-run, two-served, went-run, went-served, went-more}
 use Rattle.serving.specs.Outputs.{two-none, two-bounds}
 use borrow.Author.Needs.{needs}
-use Rattle.serving.proofs.walk.Statement.{statement}
-use Rattle.serving.proofs.walk.Tie as tie
-use Rattle.serving.proofs.walk.Reads as reads
-use Rattle.serving.proofs.walk.Lts as lts
+use Rattle.passing.proofs.walk.Statement.{statement}
+use Rattle.passing.proofs.walk.Tie as tie
+use Rattle.passing.proofs.walk.Reads as reads
+use Rattle.passing.proofs.walk.Lts as lts
 use Rattle.asking.proofs.next.Reads as next-reads
 use Rattle.rows.proofs.copy.Reads as copy-reads
 use Rattle.serving.proofs.serve.Reads as serve-reads
 
 abbrev Inv-loop : tie.InvT-loop
 Inv-loop src n met first held₀ entering₀ rows₀ d key u q i₀ at₀ a₀ m₀ held entering rows i at a m =
