@@ -63,10 +63,6 @@ pub record Met : Type 0 where
 abbrev pub cutBy : Met → ℕ → List Part
 cutBy m p = crossed (carried (m .cap) (m .own) 0) (m .partner) p
 
--- the same of one list, which has the partner's covers first, so many, of which those from a place on are still to meet, and then the element's own
-abbrev pub crossedFrom : ℕ → List ℕ → ℕ → ℕ → ℕ → List Part
-crossedFrom cap met first at p = crossed (carried cap (drop first met) 0) (drop at (take first met)) p
-
 abbrev pub onward : Bool → Bool → ℕ → ℕ
 onward true meets k = 0
 onward false true k = 0

@@ -50,7 +50,7 @@ fn pieces(
     if first == 0 {
         return cut::carry(met, held, entering, room, cap, 0, 0, c, w);
     }
-    cut::across(met, held, entering, room, cap, first, 0, c, w)
+    crossing::across(met, held, entering, room, cap, first, 0, c, w)
 }
 
 // A row that asks; of what it meets the `first` covers are the partner's. Its held pieces are written as rows of its state, and those that enter are put to

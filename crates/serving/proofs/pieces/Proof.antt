@@ -5,7 +5,7 @@ use Rattle.serving.proofs.pieces.Statement.{statement}
 use Rattle.serving.proofs.pieces.Tie as tie
 use Rattle.serving.proofs.pieces.Reads as reads
 use Rattle.serving.proofs.pieces.Lts as lts
-use Rattle.cut.proofs.across.Reads as across-reads
+use Rattle.crossing.proofs.across.Reads as across-reads
 use Rattle.cut.proofs.carry.Reads as carry-reads
 
 carry-requires : tie.Need-carry-requires

@@ -1,4 +1,4 @@
--- `cut::across` and `cut::cut_across` meet their contracts. The partner's entries still to meet fall with each call that a cut makes (twice their number, and
+-- `crossing::across` and `crossing::cut_across` meet their contracts. The partner's entries still to meet fall with each call that a cut makes (twice their number, and
 -- one more in `cut_across`), and the trains left fall in the loop of `cut_across`, which keeps `Cutting`; each return cites the law of its way.
 -- Assumes nothing.
 use mathlib.Core.Path.{_≡_, sym}
@@ -8,24 +8,24 @@ use borrow.Author.Needs.{needs}
 use lib.ListN.{length, take}
 use lib.Seq.{length-take-le}
 use lib.Bits.{and-le-l}
-use Rattle.cut.specs.Cut.{crossedFrom}
+use Rattle.crossing.specs.Crossing.{crossedFrom}
 use Rattle.cut.specs.Written.{room-after, wrote-held-length, wrote-entering-length}
 use Rattle.cut.proofs.Laws.{writes-none, Cutting, cutting-start, cutting-end, cutting-few, cutting-same, cutting-other}
-use Rattle.cut.proofs.Crossed.{writes-passed, writes-inside}
+use Rattle.crossing.proofs.Crossed.{writes-passed, writes-inside}
 use Prim.Native.Nat.{ℕ, _+_, _-_, _*_, _<_}
 use borrow.Fn.Kinds.{In}
 use borrow.Fn.PlainCycle.{Measures, is, falls, and}
-use Rattle.cut.proofs.across.Reads as across
-use Rattle.cut.proofs.across.Kinds as across-kinds
-use Rattle.cut.proofs.+across+cut_across.Lts-across as across-lts
-use Rattle.cut.proofs.cut_across.Reads as cut-across
-use Rattle.cut.proofs.cut_across.Kinds as cut-across-kinds
-use Rattle.cut.proofs.+across+cut_across.Lts-cut_across as cut-across-lts
+use Rattle.crossing.proofs.across.Reads as across
+use Rattle.crossing.proofs.across.Kinds as across-kinds
+use Rattle.crossing.proofs.+across+cut_across.Lts-across as across-lts
+use Rattle.crossing.proofs.cut_across.Reads as cut-across
+use Rattle.crossing.proofs.cut_across.Kinds as cut-across-kinds
+use Rattle.crossing.proofs.+across+cut_across.Lts-cut_across as cut-across-lts
 use Rattle.cut.proofs.carry.Reads as carry-reads
 use Rattle.cut.proofs.meeting.Reads as meeting-reads
 use Rattle.cut.proofs.outside.Reads as outside-reads
-use Rattle.cut.proofs.+across+cut_across.{statement}
-use Rattle.cut.proofs.+across+cut_across.Tie.{close}
+use Rattle.crossing.proofs.+across+cut_across.{statement}
+use Rattle.crossing.proofs.+across+cut_across.Tie.{close}
 
 abbrev μ-across : Measures 3 across-kinds.ps ℕ
 μ-across κs a = (a .1 .1 .1 .1 .1 .0 - a .1 .1 .1 .1 .1 .1 .0) * 2

@@ -9,10 +9,11 @@ use lib.ListN.{length, take, drop, getD, length-drop}
 use lib.Seq.{drop-length, drop-drop, getD-take, getD-drop, length-take-le}
 use lib.Bits.{bitAnd}
 use Rattle.rules.specs.Lists.{each}
 use Rattle.cut.specs.declared.Pieces.{Pieces}
-use Rattle.cut.specs.Cut.{Part, part, fullOf, outs, carried, crossed, crossedFrom, passed, fitting, Wrote}
+use Rattle.cut.specs.Cut.{Part, part, fullOf, outs, carried, crossed, passed, fitting, Wrote}
+use Rattle.crossing.specs.Crossing.{crossedFrom}
 use Rattle.cut.specs.Written.{fitting-join}
 use Rattle.cut.proofs.Laws.{passed-meets, passed-on, passed-stops, still, carried-held}
 
 -- ---- a piece among the partner's covers
 
