@@ -37,18 +37,17 @@ module _ {A : Type 0} where
   asking-start C R t e l =
       every-map (λ a. Unit) (Asking R (λ m. asks C t e m ≡ true)) (λ a. row a (asks C t e (R .mark a))) (λ a u k. k) l (every-all (λ a. Unit) (λ a. tt) l)
 
--- ---- the law
+-- ---- one minute
 
--- P of the list and the arrivals is kept, up to minute `last`, where the elements have E
-module _ {A : Type 0} (C : Case) (R : Rules A) (last : ℕ) (E : Place → Type 0) (places : Every E (elements C)) (P : List A → List (Arrival A) → Type 0)
-    (by-end : (t : ℕ) → t ≤ last → (l : List A) (v : List (Arrival A)) → P l v → P (keep (λ a. not (ended t (R .mark a))) l) v)
-    (by-serve : (t : ℕ) → t ≤ last → (e : Place) → E e → (b : List A) (a : A) (c : List A) (v : List (Arrival A)) → asks C t e (R .mark a) ≡ true → P (b ++ (a ∷ c)) v
+-- P of the list and the arrivals is kept in minute t, where the elements have E and each serving keeps it
+module _ {A : Type 0} (C : Case) (R : Rules A) (t : ℕ) (E : Place → Type 0) (P : List A → List (Arrival A) → Type 0)
+    (by-serve : (e : Place) → E e → (b : List A) (a : A) (c : List A) (v : List (Arrival A)) → asks C t e (R .mark a) ≡ true → P (b ++ (a ∷ c)) v
     → P (servedList (R .serve t e (b ++ (a ∷ c)) a) b c) (v ++ R .serve t e (b ++ (a ∷ c)) a .arrived)) where
-  turns-keep : (k t : ℕ) → t ≤ last → (e : Place) → E e → (v : Visit A) → Every (Asking R (λ m. asks C t e m ≡ true)) (v .rows)
+  pub turns-keep : (k : ℕ) (e : Place) → E e → (v : Visit A) → Every (Asking R (λ m. asks C t e m ≡ true)) (v .rows)
       → P (items (v .rows)) (v .arrived) → P (items (turns C R k t e v .rows)) (turns C R k t e v .arrived)
   unfolding turns
-  turns-keep zero t h e f v q p = p
-  turns-keep (suc k) t h e f v q p = go (next C R (v .rows)) (next-chosen C R (v .rows)) (turns-keep k t h e f)
+  turns-keep zero e f v q p = p
+  turns-keep (suc k) e f v q p = go (next C R (v .rows)) (next-chosen C R (v .rows)) (turns-keep k e f)
     where
       go : (u : Turn A) → Chosen C R (v .rows) u
           → ((w : Visit A) → Every (Asking R (λ m. asks C t e m ≡ true)) (w .rows) → P (items (w .rows)) (w .arrived) → P (items (turns C R k t e w .rows)) (turns C R k t e w .arrived))
@@ -59,7 +58,7 @@ module _ {A : Type 0} (C : Case) (R : Rules A) (last : ℕ) (E : Place → Type 
           (served-asking R (λ m. asks C t e m ≡ true) s b a c asking)
           (subst (λ (l : List A). P l (v .arrived ++ s .arrived)) (sym (items-served s b c))
           (subst (λ (l : List A). P (servedList (R .serve t e l a) (items b) (items c)) (v .arrived ++ R .serve t e l a .arrived)) (sym here)
-          (by-serve t h e f (items b) a (items c) (v .arrived) (every-right (Asking R (λ m. asks C t e m ≡ true)) b (row a true ∷ c) asking .0 refl)
+          (by-serve e f (items b) a (items c) (v .arrived) (every-right (Asking R (λ m. asks C t e m ≡ true)) b (row a true ∷ c) asking .0 refl)
           (subst (λ (l : List A). P l (v .arrived)) here p))))
         where
           s : Served A
@@ -71,24 +70,31 @@ module _ {A : Type 0} (C : Case) (R : Rules A) (last : ℕ) (E : Place → Type 
           asking : Every (Asking R (λ m. asks C t e m ≡ true)) (b ++ (row a true ∷ c))
           asking = subst (Every (Asking R (λ m. asks C t e m ≡ true))) (g .apart) q
 
-  visit-keeps : (t : ℕ) → t ≤ last → (e : Place) → E e → (s : State A) → P (s .list) (s .arrived) → P (visit C R t e s .list) (visit C R t e s .arrived)
+  pub visit-keeps : (e : Place) → E e → (s : State A) → P (s .list) (s .arrived) → P (visit C R t e s .list) (visit C R t e s .arrived)
   unfolding visit
-  visit-keeps t h e f s p =
-      turns-keep (length (s .list)) t h e f (visiting (map (λ a. row a (asks C t e (R .mark a))) (s .list)) (s .arrived) (s .met))
+  visit-keeps e f s p =
+      turns-keep (length (s .list)) e f (visiting (map (λ a. row a (asks C t e (R .mark a))) (s .list)) (s .arrived) (s .met))
       (asking-start C R t e (s .list)) (subst (λ (l : List A). P l (s .arrived)) (sym (items-start (λ a. asks C t e (R .mark a)) (s .list))) p)
 
-  visits-keep : (t : ℕ) → t ≤ last → (es : List Place) → Every E es → (s : State A) → P (s .list) (s .arrived)
-      → P (fold (visit C R t) es s .list) (fold (visit C R t) es s .arrived)
-  visits-keep t h [] f s p = p
-  visits-keep t h (e ∷ es) f s p = visits-keep t h es (f .1) (visit C R t e s) (visit-keeps t h e (f .0) s p)
+  pub visits-keep : (es : List Place) → Every E es → (s : State A) → P (s .list) (s .arrived) → P (fold (visit C R t) es s .list) (fold (visit C R t) es s .arrived)
+  visits-keep [] f s p = p
+  visits-keep (e ∷ es) f s p = visits-keep es (f .1) (visit C R t e s) (visit-keeps e (f .0) s p)
 
-  minutes-keep : (n : ℕ) → n ≤ suc last → (s : State A) → P (s .list) (s .arrived) → P (minutes C R n s .list) (minutes C R n s .arrived)
+-- ---- the law
+
+-- P of the list and the arrivals is kept, up to minute `last`, where the elements have E
+module _ {A : Type 0} (C : Case) (R : Rules A) (last : ℕ) (E : Place → Type 0) (places : Every E (elements C)) (P : List A → List (Arrival A) → Type 0)
+    (by-end : (t : ℕ) → t ≤ last → (l : List A) (v : List (Arrival A)) → P l v → P (keep (λ a. not (ended t (R .mark a))) l) v)
+    (by-serve : (t : ℕ) → t ≤ last → (e : Place) → E e → (b : List A) (a : A) (c : List A) (v : List (Arrival A)) → asks C t e (R .mark a) ≡ true → P (b ++ (a ∷ c)) v
+    → P (servedList (R .serve t e (b ++ (a ∷ c)) a) b c) (v ++ R .serve t e (b ++ (a ∷ c)) a .arrived)) where
+  pub minutes-keep : (n : ℕ) → n ≤ suc last → (s : State A) → P (s .list) (s .arrived) → P (minutes C R n s .list) (minutes C R n s .arrived)
   unfolding minutes minute
   minutes-keep zero h s p = p
   minutes-keep (suc n) h s p =
       let u = minutes C R n s in
-      visits-keep n (omega arith) (elements C) places (state (keep (λ a. not (ended n (R .mark a))) (u .list)) (u .arrived) (u .met))
-      (by-end n (omega arith) (u .list) (u .arrived) (minutes-keep n (omega arith) s p))
+      let in-time : n ≤ last = omega arith in
+      visits-keep C R n E P (by-serve n in-time) (elements C) places (state (keep (λ a. not (ended n (R .mark a))) (u .list)) (u .arrived) (u .met))
+      (by-end n in-time (u .list) (u .arrived) (minutes-keep n (omega arith) s p))
 
   pub run-keeps : (l : List A) → P l [] → (m : ℕ) → m ≤ last → P (runFrom C R l m .list) (runFrom C R l m .arrived)
   unfolding runFrom
