@@ -1,6 +1,6 @@
 -- Who asks for an element and what a pass is for, on rows of two words and the words T that the runs look up. Assumes nothing: these are definitions.
 use mathlib.Core.Path.{_≡_}
-use mathlib.Core.Bool.{Bool, false, not, cond}
+use mathlib.Core.Bool.{Bool, false, not, _&&_, cond}
 use mathlib.Core.List.{List, [], _∷_}
 use Prim.Native.Nat.{ℕ, _+_, _*_, _/_, _%_, _≤_, _<_}
 use lib.ListN.{length, take, drop, getD}
@@ -53,6 +53,10 @@ pub record Mutual (T : List ℕ) : Type 0 where
   pub low : (e : ℕ) → e < 128 → partnerOf T e < 64
   pub back : (e : ℕ) → e < 128 → (partnerOf T e ≡ 0 → ⊥) → partnerOf T (partnerOf T e) ≡ e
 
+-- who leaves the place with code p leaves a block there: with safety time 0 nobody does, and nothing outside is blocked
+unfoldable pub leavesOf : ℕ → ℕ → Bool
+leavesOf safety p = ltb 0 safety && not (eqb p 65)
+
 -- minute, element and train; capacity and partner; the state of what enters, and of the block that it leaves where the asker of the state s stands
 unfoldable pub jobOf : List ℕ → ℕ → ℕ → ℕ → ℕ → Job
 jobOf T t e k s = record {
@@ -63,7 +67,7 @@ jobOf T t e k s = record {
   partner = partnerOf T e;
   stands = k * 524288 + e * 4096 + (t + getD T (1264 + (k * 128 + e)) 0);
   blocks = k * 524288 + s / 4096 % 128 * 4096 + 2048 + (t + getD T 2 0);
-  two = not (eqb (s / 4096 % 128) 65);
+  two = leavesOf (getD T 2 0) (s / 4096 % 128);
 }
 
 -- the capacity and the partner that the job has are its element's

@@ -7,7 +7,7 @@ ghost use lib.Seq.{slice};
 ghost use Rattle.theory_lists.specs.Every.{Every};
 ghost use Rattle.rows.specs.Rows.{row, rowsOf, rowsIn, rowAt, Begins};
 ghost use Rattle.weigh.specs.Weigh.{Small};
-ghost use Rattle.asking.specs.Ask.{dueOf, asksOf, reachOf, stirsOf, capOf, jobOf, metAcross, metOn, metFor, Gathered, Before, Within};
+ghost use Rattle.asking.specs.Ask.{dueOf, asksOf, reachOf, stirsOf, capOf, leavesOf, jobOf, metAcross, metOn, metFor, Gathered, Before, Within};
 
 // What a pass is for: minute, element and train; the element's capacity and its partner, 0 for none; the state of what enters, that of the block it leaves, and whether it
 // leaves one.
@@ -139,6 +139,16 @@ fn capacity(tables: &[u64], e: u64) -> u64
     1
 }
 
+// Whether who leaves the place `from` leaves a block: with safety time 0 nobody does, and nothing outside is blocked.
+fn leaves_block(safety: u64, from: u64) -> bool
+    ensures { λ r. ⌜ r ≡ leavesOf safety from ⌝ }
+{
+    if safety == 0 {
+        return false;
+    }
+    from != 65
+}
+
 // What the pass of train k for e at t is for, where the first asker has the state s.
 pub fn assign(tables: &[u64], t: u64, e: u64, k: u64, s: u64) -> Job
     requires { ⌜ Within t e k × Small (now tables) ⌝ }
@@ -157,7 +167,7 @@ pub fn assign(tables: &[u64], t: u64, e: u64, k: u64, s: u64) -> Job
         partner: partner,
         stands: k * 524288 + e * 4096 + (t + stay),
         blocks: k * 524288 + from * 4096 + 2048 + (t + safety),
-        two: from != 65,
+        two: leaves_block(safety, from),
     }
 }
 

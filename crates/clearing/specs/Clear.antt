@@ -12,7 +12,7 @@ use Rattle.waiting.specs.Calm.{waitsOf, spot, spotOf, Calm, Meets, Told}
 use Rattle.waiting.specs.Notes.{stirIn, askedIn, toldLeft, Flagged, Grows}
 use Rattle.visiting.specs.Visit.{wakeOf, Kept}
 
--- what is noted where the row of the state s with the cover c goes, if it is a block that ended before t
+-- what is noted where the row of the state s with the cover c goes, if it is a block that has ended by t
 unfoldable pub leftOf : List ℕ → ℕ → ℕ → ℕ → List ℕ → List ℕ
 leftOf T t s c N = cond (endedOf t s) (toldLeft T N (s / 4096 % 128) c) N
 
@@ -45,11 +45,11 @@ pub record Marks (T : List ℕ) (t : ℕ) (l : List Row) (N M : List ℕ) : Type
 abbrev pub Shown : List ℕ → Row → Type 0
 Shown N r = getD N (2176 + r .state % 4096) 0 ≡ 0 → ⊥
 
--- what is noted of the rows before minute t: they are calm, their minutes are shown, and a block that ended before t ended in the minute before
+-- what is noted of the rows before minute t: they are calm, their minutes are shown, and a block that has ended by t ends at t
 pub record Due (T : List ℕ) (t : ℕ) (N : List ℕ) (l : List Row) : Type 0 where
   pub calm : Calm T t (stirIn N) (askedIn N) l
   pub shown : Every (Shown N) l
-  pub last : Every (λ r. endedOf t (r .state) ≡ true → r .state % 4096 ≡ 2047 + t) l
+  pub last : Every (λ r. endedOf t (r .state) ≡ true → r .state % 4096 ≡ 2048 + t) l
 
 -- the rows that stay are the first r words, and what is noted is noted of them
 pub record Cleared (T : List ℕ) (t : ℕ) (l : List Row) (w r : ℕ) (rows M : List ℕ) : Type 0 where

@@ -4,9 +4,9 @@ use mathlib.Core.Bool.{Bool, true, false, not, cond, false≢true}
 use mathlib.Core.List.{List, [], _∷_, _++_}
 use Prim.Native.Nat.{ℕ, _+_, _-_, _*_, _/_, _%_, _≤_, _<_}
 use native.Mathlib.Omega.{arith}
-use borrow.Author.Tests.{not-true, eqb-true, eqb-false, le-ltb, ltb-true, ltb-false}
+use borrow.Author.Tests.{not-true, eqb-true, eqb-false, le-ltb, ltb-true, ltb-false, leb-true, leb-false}
 use lib.ListN.{length, take, getD}
-use lib.Dec.{eqb, ltb}
+use lib.Dec.{eqb, ltb, leb}
 use Rattle.rules.specs.Lists.{one, keep}
 use Rattle.rules.specs.Sweep.{firstToGo}
 use Rattle.theory_lists.specs.Every.{Every, every-append, every-more, every-keep}
@@ -147,19 +147,19 @@ marks-more T t i l N M long ways train h =
 next-low : (T : List ℕ) → Ways T → (s : ℕ) → s / 524288 < 8 → nextOf T s < 128
 next-low T ways s h = ways .nexts (s / 4096) (omega arith)
 
--- where no row shows that it ended in the minute before, none goes
-pub clear-none : (T : List ℕ) (t : ℕ) (N : List ℕ) (l : List Row) → Due T t N l → getD N (4223 + t) 0 ≡ 0 → sweptOf t l ≡ l
+-- where no row shows that it ends at t, none goes
+pub clear-none : (T : List ℕ) (t : ℕ) (N : List ℕ) (l : List Row) → Due T t N l → getD N (4224 + t) 0 ≡ 0 → sweptOf t l ≡ l
 unfolding sweptOf
 clear-none T t N l d z = go l (d .shown) (d .last)
   where
-    go : (rs : List Row) → Every (Shown N) rs → Every (λ r. endedOf t (r .state) ≡ true → r .state % 4096 ≡ 2047 + t) rs → keep (λ r. not (endedOf t (r .state))) rs ≡ rs
+    go : (rs : List Row) → Every (Shown N) rs → Every (λ r. endedOf t (r .state) ≡ true → r .state % 4096 ≡ 2048 + t) rs → keep (λ r. not (endedOf t (r .state))) rs ≡ rs
     go [] a b = refl
     go (r ∷ rs) a b = by (endedOf t (r .state)) refl (go rs (a .1) (b .1))
       where
         by : (x : Bool) → endedOf t (r .state) ≡ x → keep (λ r. not (endedOf t (r .state))) rs ≡ rs → one (not x) r ++ keep (λ r. not (endedOf t (r .state))) rs ≡ r ∷ rs
         by false e ih = ap (λ (y : List Row). r ∷ y) ih
         by true e ih =
-            let i : 2176 + r .state % 4096 ≡ 4223 + t = omega (arith, b .0 e) in
+            let i : 2176 + r .state % 4096 ≡ 4224 + t = omega (arith, b .0 e) in
             absurd (a .0 (ap (λ (y : ℕ). getD N y 0) i ∙ z))
 
 pub clear-swept : (T : List ℕ) (t : ℕ) (N M : List ℕ) (l : List Row) → Ways T → Due T t N l → Leaves T t l N M → Due T t M (sweptOf t l)
@@ -167,7 +167,7 @@ unfolding sweptOf
 clear-swept T t N M l ways d h = record {
   calm = calm-swept T t t (stirIn N) (askedIn N) (stirIn M) (askedIn M) l (next-low T ways) (h .grows .stir) (h .grows .asked) (d .calm) (h .known);
   shown = every-more (Shown N) (Shown M) (λ r k z. k (h .grows .minutes (r .state % 4096) (omega arith) z)) (sweptOf t l) (every-keep (Shown N) (λ r. not (endedOf t (r .state))) l (d .shown));
-  last = every-keep (λ r. endedOf t (r .state) ≡ true → r .state % 4096 ≡ 2047 + t) (λ r. not (endedOf t (r .state))) l (d .last);
+  last = every-keep (λ r. endedOf t (r .state) ≡ true → r .state % 4096 ≡ 2048 + t) (λ r. not (endedOf t (r .state))) l (d .last);
 }
 
 -- of the rows that stay none has ended
@@ -195,20 +195,20 @@ module _ (T : List ℕ) (t : ℕ) (N : List ℕ) (l : List Row) (ways : Ways T) 
 
 -- ---- the next minute
 
--- a block that has ended before t + 1 and not before t ended in t
+-- a block that has ended by t + 1 and not by t ends at t + 1
 pub noted-due : (T : List ℕ) (t : ℕ) (N : List ℕ) (l : List Row) → Noted T t N l → Due T (t + 1) N l
 unfolding endedOf
 noted-due T t N l h = record {
   calm = h .calm;
   shown = h .shown;
-  last = every-more (λ r. endedOf t (r .state) ≡ false) (λ r. endedOf (t + 1) (r .state) ≡ true → r .state % 4096 ≡ 2047 + (t + 1)) (λ r k e. go (r .state) (eqb (r .state / 2048 % 2) 1) refl k e) l (h .current);
+  last = every-more (λ r. endedOf t (r .state) ≡ false) (λ r. endedOf (t + 1) (r .state) ≡ true → r .state % 4096 ≡ 2048 + (t + 1)) (λ r k e. go (r .state) (eqb (r .state / 2048 % 2) 1) refl k e) l (h .current);
 }
   where
-    go : (s : ℕ) (b : Bool) → eqb (s / 2048 % 2) 1 ≡ b → cond b (ltb (s % 2048) t) false ≡ false → cond b (ltb (s % 2048) (t + 1)) false ≡ true → s % 4096 ≡ 2047 + (t + 1)
+    go : (s : ℕ) (b : Bool) → eqb (s / 2048 % 2) 1 ≡ b → cond b (leb (s % 2048) t) false ≡ false → cond b (leb (s % 2048) (t + 1)) false ≡ true → s % 4096 ≡ 2048 + (t + 1)
     go s true e x y =
         let a : s / 2048 % 2 ≡ 1 = eqb-true (s / 2048 % 2) 1 e in
-        let p : t ≤ s % 2048 = ltb-false (s % 2048) t x in
-        let q : s % 2048 < t + 1 = ltb-true (s % 2048) (t + 1) y in
+        let p : t < s % 2048 = leb-false (s % 2048) t x in
+        let q : s % 2048 ≤ t + 1 = leb-true (s % 2048) (t + 1) y in
         omega arith
     go s false e x y = absurd (false≢true y)
 
@@ -218,7 +218,7 @@ module _ (T : List ℕ) (t w : ℕ) (rows N : List ℕ) (kept : Kept w rows) (F 
   abbrev l : List Row
   l = rowsOf (take w rows)
 
-  pub clear-still : getD N (4223 + t) 0 ≡ 0 → Cleared T t (rowsOf (take w rows)) w w rows N
+  pub clear-still : getD N (4224 + t) 0 ≡ 0 → Cleared T t (rowsOf (take w rows)) w w rows N
   clear-still z =
       let same : sweptOf t l ≡ l = clear-none T t N l d z in
       record { less = omega arith; kept = kept; list = sym same; flagged = F; due = subst (Due T t N) (sym same) d }
@@ -267,13 +267,13 @@ pub record Proper (r : Row) : Type 0 where
   pub train : r .state / 524288 < 8
   pub place : r .state / 4096 % 128 ≤ 65
 
--- before minute 0 nothing waits and nothing has ended
+-- before minute 0 nothing waits, and what has ended by then ends at 0
 pub first-due : (T : List ℕ) (N : List ℕ) (l : List Row) → Every Proper l → Enrols l N → Due T 0 N l
 unfolding waitsOf endedOf
 first-due T N l p h = record {
   calm = every-more Proper (Settled T 0 (stirIn N) (askedIn N) l) settled l p;
   shown = h .shown;
-  last = every-more Proper (λ r. endedOf 0 (r .state) ≡ true → r .state % 4096 ≡ 2047 + 0) (λ r k e. absurd (false≢true (sym (ended (r .state)) ∙ e))) l p;
+  last = every-more Proper (λ r. endedOf 0 (r .state) ≡ true → r .state % 4096 ≡ 2048 + 0) (λ r k e. ended (r .state) (eqb (r .state / 2048 % 2) 1) refl e) l p;
 }
   where
     low : (x : ℕ) → ltb x 0 ≡ false
@@ -286,12 +286,9 @@ first-due T N l p h = record {
         go true = refl
         go false = low (s % 2048)
 
-    ended : (s : ℕ) → endedOf 0 s ≡ false
-    ended s = go (eqb (s / 2048 % 2) 1)
-      where
-        go : (b : Bool) → cond b (ltb (s % 2048) 0) false ≡ false
-        go true = low (s % 2048)
-        go false = refl
+    ended : (s : ℕ) (b : Bool) → eqb (s / 2048 % 2) 1 ≡ b → cond b (leb (s % 2048) 0) false ≡ true → s % 4096 ≡ 2048 + 0
+    ended s true e h = omega (arith, eqb-true (s / 2048 % 2) 1 e, leb-true (s % 2048) 0 h)
+    ended s false e h = absurd (false≢true h)
 
     settled : (r : Row) → Proper r → Settled T 0 (stirIn N) (askedIn N) l r
     settled r k = record {

@@ -12,7 +12,7 @@ ghost use Rattle.waiting.specs.Notes.{Flagged};
 ghost use Rattle.visiting.specs.Visit.{Kept, Ways, Noted};
 ghost use Rattle.clearing.specs.Clear.{markedOf, Leaves, Marks, Due, Cleared, Enrols};
 
-// The first of the first n rows that is a block that ended before t, or n. No row is written: what stands before it is not moved.
+// The first of the first n rows that is a block that has ended by t, or n. No row is written: what stands before it is not moved.
 fn first_ended(rows: &[u64], n: usize, t: u64) -> usize
     requires { ⌜ n * 2 ≤ length (now rows) ⌝ }
     ensures { λ r. ⌜ (r ≤ n) × (r ≡ firstToGo (λ x. endedOf t (x .state)) (rowsIn n (now (rows .entry)))) ⌝ }
@@ -27,7 +27,7 @@ fn first_ended(rows: &[u64], n: usize, t: u64) -> usize
     n
 }
 
-// The blocks that end before t go from n rows: each row is read once, in turn, and is told to the pairs that meet it if it goes; if it stays, it is written
+// The blocks that have ended by t go from n rows: each row is read once, in turn, and is told to the pairs that meet it if it goes; if it stays, it is written
 // once, to the next free place. Returns how many rows are left.
 fn close_up(rows: &mut [u64], n: usize, tables: &[u64], notes: &mut [u64], t: u64) -> usize
     requires { ⌜ (n * 2 ≤ length (now rows)) × Flagged (now notes) × Mutual (now tables) ⌝ }
@@ -52,7 +52,7 @@ fn close_up(rows: &mut [u64], n: usize, tables: &[u64], notes: &mut [u64], t: u6
     j
 }
 
-// The blocks that end before t go from the first n rows in one sweep, and the pairs that meet them are told. Only the rows from the first of them on are lent
+// The blocks that have ended by t go from the first n rows in one sweep, and the pairs that meet them are told. Only the rows from the first of them on are lent
 // to be written, and each that stays is written at most once. Returns how many rows are left.
 fn sweep(rows: &mut [u64], n: usize, tables: &[u64], notes: &mut [u64], t: u64) -> usize
     requires { ⌜ (n * 2 ≤ length (now rows)) × Flagged (now notes) × Mutual (now tables) ⌝ }
@@ -90,12 +90,12 @@ fn mark(rows: &[u64], n: usize, tables: &[u64], notes: &mut [u64], t: u64)
     }
 }
 
-// The blocks that end before t go from the first w words, if one shows such an end. Returns how many words are left.
+// The blocks that have ended by t go from the first w words, if one shows that it ends at t. Returns how many words are left.
 pub fn clear(rows: &mut [u64], w: usize, notes: &mut [u64], tables: &[u64], t: u64) -> usize
     requires { ⌜ Kept w (now rows) × Flagged (now notes) × (t < 720) × Ways (now tables) × Due (now tables) t (now notes) (rowsOf (take w (now rows))) ⌝ }
     ensures { λ r. ⌜ Cleared (now (tables .entry)) t (rowsOf (take w (now (rows .entry)))) w r (now (rows .exit)) (now (notes .exit)) ⌝ }
 {
-    if notes[4223 + t as usize] == 0 {
+    if notes[4224 + t as usize] == 0 {
         return w;
     }
     let m = sweep(rows, w / 2, tables, notes, t);

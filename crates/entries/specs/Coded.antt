@@ -31,9 +31,9 @@ module _ (m : Mark) (f : Fit m) where
   pub ended-state : (t : ℕ) → endedOf t (stateOf m) ≡ ended t m
   unfolding endedOf ended
   ended-state t =
-      ap₂ (λ (b u : ℕ). cond (eqb b 1) (ltb u t) false) (state-blocks m f) (state-minute m f) ∙ go (m .blocks)
+      ap₂ (λ (b u : ℕ). cond (eqb b 1) (leb u t) false) (state-blocks m f) (state-minute m f) ∙ go (m .blocks)
     where
-      go : (b : Bool) → cond (eqb (tick b) 1) (ltb (m .minute) t) false ≡ (b && ltb (m .minute) t)
+      go : (b : Bool) → cond (eqb (tick b) 1) (leb (m .minute) t) false ≡ (b && leb (m .minute) t)
       go true = refl
       go false = refl
 

@@ -1,15 +1,15 @@
 -- A pass on rows is the pass of the definitions: row by row what is held stays as rows, and what enters makes the same rows at the end.
 -- All askers stand at one place, so the first one tells the block. Assumes nothing.
 use mathlib.Core.Path.{_≡_, refl, ap, ap₂, sym, _∙_, subst}
-use mathlib.Core.Bool.{Bool, true, false, not, _||_, cond, false≢true}
+use mathlib.Core.Bool.{Bool, true, false, not, _&&_, _||_, cond, false≢true}
 use mathlib.Core.List.{List, [], _∷_, _++_, map}
 use Prim.Native.Nat.{ℕ, _+_, _/_, _%_, _≤_, _<_}
 use native.Mathlib.Omega.{arith}
-use lib.Dec.{eqb}
+use lib.Dec.{eqb, ltb}
 use borrow.Author.Tests.{ne-eqb}
 use Rattle.rules.specs.Lists.{one, each, keep}
 use Rattle.rules.specs.Files.{Case}
-use Rattle.rules.specs.Turns.{Place, same, Mark, stands, block, dueAgain, Served, served}
+use Rattle.rules.specs.Turns.{Place, same, Mark, stands, block, dueAgain, leavesBlock, Served, served}
 use Rattle.rules.specs.Turns.Place.{outside, station, track, gone}
 use Rattle.rules.specs.Joint.{Cover, Entry, entry, Piece, meets, meetsAcross}
 use Rattle.theory_sound.specs.Facts.{Sound}
@@ -26,7 +26,7 @@ use Rattle.cut.specs.Packed.{packed, packedPiece}
 use Rattle.cut.specs.Bridge.{heldCovers, enteringCovers, held-packed, entering-packed}
 use Rattle.rows.specs.Rows.{Row, row, heldRows, enteredRows}
 use Rattle.asking.specs.declared.Job.{Job}
-use Rattle.asking.specs.Ask.{asksOf, askerOf, jobOf, metFor, askingOf, Suits}
+use Rattle.asking.specs.Ask.{asksOf, askerOf, leavesOf, jobOf, metFor, askingOf, Suits}
 use Rattle.serving.specs.Pass.{holdRow, enterRow, coversOf, passedOf}
 use Rattle.visiting.specs.Visit.{someAsks, jobFor}
 use Rattle.theory_codes.specs.Places.{Coded, code-place}
@@ -155,9 +155,11 @@ module _ (C : Case) (sound : Sound C) (t e k : ℕ) (low : e ≤ 64) where
     unfolding jobOf stateOf
     blocks-is = omega (arith, from-is, table-safety C)
 
-    two-is : q .two ≡ not (same (placeBefore C k (placeOf e)) outside)
-    unfolding jobOf
-    two-is = ap (λ (c : ℕ). not (eqb c 65)) from-is ∙ ap not (outside-test (placeBefore C k (placeOf e)) before-coded)
+    two-is : q .two ≡ leavesBlock C (placeBefore C k (placeOf e))
+    unfolding jobOf leavesOf
+    two-is =
+        ap₂ (λ (s c : ℕ). ltb 0 s && not (eqb c 65)) (table-safety C) from-is
+        ∙ ap (λ (b : Bool). ltb 0 (C .head .safety) && not b) (outside-test (placeBefore C k (placeOf e)) before-coded)
 
     job-place : q .place ≡ e
     unfolding jobOf
@@ -222,7 +224,7 @@ module _ (C : Case) (sound : Sound C) (t e k : ℕ) (low : e ≤ 64) where
           ∙ sym (ap (λ (s : Served Entry). map rowOf (s .added)) (passed-with C sound t (placeOf e) k far qs r))
         where
           b : Bool
-          b = not (same (placeBefore C k (placeOf e)) outside)
+          b = leavesBlock C (placeBefore C k (placeOf e))
 
           go : (z : Bool) → enteredRows (stateOf newStanding) (stateOf newBlock) b (cond z (enteringCovers (ps r)) [])
               ≡ map rowOf (cond z (serveWith (r .mark) (newMarks C t (placeOf e) k) (arrivalMarks C t (placeOf e) k) (ps r)) (served (r ∷ []) [] []) .added)

@@ -9,7 +9,7 @@ use Rattle.visiting.specs.Visit.{Outcome, guard, read, Kept}
 use Rattle.visiting.specs.Visit.Outcome.{refused, stands}
 use Rattle.elements.specs.Elements.{upTo, elementsOf}
 
--- the blocks that end before t go
+-- the blocks that have ended by t go
 unfoldable pub clearedOf : ℕ → Outcome → Outcome
 clearedOf t refused = refused
 clearedOf t (stands l v) = stands (sweptOf t l) v

@@ -1,5 +1,6 @@
 -- The single run on words, as the program holds it, for a table of words T: the code of train k's place stands at k, its due minute at 8 + k, the minute
--- after its arrival at 16 + k (0: none), and at 24 + e · 8 + k the minute after the end of its block on element e (0: none). Assumes nothing: these are definitions.
+-- after its arrival at 16 + k (0: none), and at 24 + e · 8 + k the end of its block on element e (0: none), a minute in which the block is gone.
+-- Assumes nothing: these are definitions.
 use mathlib.Core.Bool.{Bool, _&&_, _||_, cond}
 use mathlib.Core.List.{List}
 use Prim.Native.Nat.{ℕ, suc, _+_, _*_, _/_, _%_, _<_}
@@ -51,9 +52,9 @@ lets T t e w = eqb e 64 || (ltb (crowd T t e w) (getD T (176 + e) 0) && eqb (acr
 
 -- ---- train k enters e in minute t
 
--- it blocks the element that it leaves; nothing outside is blocked
+-- it blocks the element that it leaves until minute t + safety time; an end of t, with safety time 0, is no block. Nothing outside is blocked
 unfoldable pub leftIn : List ℕ → ℕ → ℕ → List ℕ → List ℕ
-leftIn T t k w = cond (ltb (getD w k 0) 65) (set w (24 + getD w k 0 * 8 + k) (t + getD T 2 0 + 1)) w
+leftIn T t k w = cond (ltb (getD w k 0) 65) (set w (24 + getD w k 0 * 8 + k) (t + getD T 2 0)) w
 
 -- it stands on e until it is due again
 unfoldable pub stoodIn : List ℕ → ℕ → ℕ → ℕ → List ℕ → List ℕ

@@ -62,7 +62,7 @@ pub fn lets(tables: &[u64], run: &[u64], t: u64, e: u64) -> bool
     false
 }
 
-// Train k blocks the element that it leaves, through the safety time; nothing outside is blocked.
+// Train k blocks the element that it leaves until the safety time is over; nothing outside is blocked.
 fn leave(tables: &[u64], run: &mut [u64], t: u64, k: u64)
     requires { ⌜ Small (now tables) × (k < 4294967296) × (t < 65536) ⌝ }
     ensures { λ _. ⌜ now (run .exit) ≡ leftIn (now (tables .entry)) t k (now (run .entry)) ⌝ }
@@ -70,7 +70,7 @@ fn leave(tables: &[u64], run: &mut [u64], t: u64, k: u64)
     let p = words::at(run, k);
     if p < 65 {
         let end = t + words::at(tables, 2);
-        words::put(run, 24 + p * 8 + k, end + 1);
+        words::put(run, 24 + p * 8 + k, end);
     }
 }
 

@@ -6,7 +6,7 @@ use mathlib.Core.List.{List, [], _∷_, _++_, map}
 use Prim.Native.Nat.{ℕ, _+_, _≤_, _<_}
 use native.Mathlib.Omega.{arith}
 use lib.ListN.{length, length-append}
-use lib.Dec.{leb, ltb}
+use lib.Dec.{leb}
 use borrow.Author.Tests.{leb-true, le-leb}
 use Rattle.rules.specs.Lists.{one, each, keep, tick, sum, count}
 use Rattle.rules.specs.Files.{Case}
@@ -44,8 +44,8 @@ count-kept C t (r ∷ l) = go (r .mark .blocks) refl (count-kept C t l)
 
     go : (b : Bool) → r .mark .blocks ≡ b → count (entryCome C) l ≤ count (entryCome C) rest
         → tick (not b && leb (toGo C (r .mark .train) (r .mark .place)) (toGo C (r .mark .train) (lastStation C (r .mark .train)))) + count (entryCome C) l
-        ≤ count (entryCome C) (one (not (b && ltb (r .mark .minute) t)) r ++ rest)
-    go true q ih = omega (arith, sum-append (λ r. tick (entryCome C r)) (one (not (ltb (r .mark .minute) t)) r) rest)
+        ≤ count (entryCome C) (one (not (b && leb (r .mark .minute) t)) r ++ rest)
+    go true q ih = omega (arith, sum-append (λ r. tick (entryCome C r)) (one (not (leb (r .mark .minute) t)) r) rest)
     go false q ih = rw q (omega arith)
 
 -- ---- serving

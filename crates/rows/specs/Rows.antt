@@ -4,7 +4,7 @@ use mathlib.Core.Bool.{Bool, false, not, cond}
 use mathlib.Core.List.{List, [], _∷_, map}
 use Prim.Native.Nat.{ℕ, _+_, _*_, _/_, _%_, _≤_}
 use lib.ListN.{length, take, drop, getD}
-use lib.Dec.{ltb, eqb}
+use lib.Dec.{leb, eqb}
 use Rattle.rules.specs.Lists.{one, each, keep}
 use Rattle.rules.specs.Sweep.{afterMoves}
 use Rattle.theory_lists.specs.Sweeps.{sweepMoves}
@@ -42,9 +42,9 @@ pub record Begins (L : List ℕ) (r : ℕ) (out : List ℕ) : Type 0 where
 
 -- ---- what a state shows
 
--- a block whose end is before t
+-- a block whose end is t or earlier
 unfoldable pub endedOf : ℕ → ℕ → Bool
-endedOf t s = cond (eqb (s / 2048 % 2) 1) (ltb (s % 2048) t) false
+endedOf t s = cond (eqb (s / 2048 % 2) 1) (leb (s % 2048) t) false
 
 -- a state of another train than k at the place with code e
 unfoldable pub meetsOf : ℕ → ℕ → ℕ → Bool
@@ -56,11 +56,11 @@ meetsOf e k s = cond (eqb (s / 4096 % 128) e) (not (eqb (s / 524288) k)) false
 unfoldable pub metOf : ℕ → ℕ → List Row → List ℕ
 metOf e k rs = each (λ r. one (meetsOf e k (r .state)) (r .cover)) rs
 
--- the rows that stay when the blocks that end before t go
+-- the rows that stay when the blocks go that have ended by t
 unfoldable pub sweptOf : ℕ → List Row → List Row
 sweptOf t rs = keep (λ r. not (endedOf t (r .state))) rs
 
--- the blocks that end before t have gone from the first n rows of `was` in one sweep, and r rows are left: they are 01's list, the places are what the sweep's
+-- the blocks that have ended by t have gone from the first n rows of `was` in one sweep, and r rows are left: they are 01's list, the places are what the sweep's
 -- moves make of them, and what stands behind is as it was
 pub record Swept (t n : ℕ) (was : List ℕ) (r : ℕ) (rows : List ℕ) : Type 0 where
   pub few : r ≤ n

@@ -31,12 +31,12 @@ pub fn append(out: &mut [u64], w: usize, s: u64, c: u64) -> usize
     put(out, next, c)
 }
 
-// Whether s is the state of a block whose end is before t.
+// Whether s is the state of a block whose end is t or earlier.
 pub fn ended(s: u64, t: u64) -> bool
     ensures { λ r. ⌜ r ≡ endedOf t s ⌝ }
 {
     if s / 2048 % 2 == 1 {
-        return s % 2048 < t;
+        return s % 2048 <= t;
     }
     false
 }

@@ -159,8 +159,8 @@ pieces C e rs r =
 abbrev pub covered : Cover → Arrival Mark → Arrival Entry
 covered p v = arrives (entry (v .who) p) (v .minute)
 
--- held pieces replace the asking entry in its row, minute unchanged; then each entering piece adds at the end its standing entry and, unless it came from outside,
--- its block
+-- held pieces replace the asking entry in its row, minute unchanged; then each entering piece adds at the end its standing entry and the block
+-- that it leaves, if any
 unfoldable pub serveEntry : Case → ℕ → Place → List Entry → Entry → Served Entry
 serveEntry C t e rs r =
     let ps = pieces C e rs r in

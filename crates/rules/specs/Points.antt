@@ -1,5 +1,5 @@
--- 01, "Shift example": the twelve points marked P, as one table of questions put to the definitions, and one theorem that each is answered so.
--- It is proved by computing from the example's bytes. Assumes nothing.
+-- 01, "Shift example", and 02, request 3, by which P3, P6, P7 and P8 are worked out again: the twelve points marked P, as one table of questions put to the
+-- definitions, and one theorem that each is answered so. It is proved by computing from the example's bytes. Assumes nothing.
 use mathlib.Core.Path.{_≡_, refl}
 use mathlib.Core.List.{List, [], _∷_, map}
 use mathlib.Core.Option.{Option, none, some}
@@ -69,12 +69,12 @@ unfoldable pub points : List Point
 points =
     point (arrives (0 ∷ 0 ∷ [])) (inMinute 11)  -- P1: delays of 0 and 0
     ∷ point (arrives (0 ∷ 1 ∷ [])) (inMinute 14)  -- P2: 0 and 3
-    ∷ point (arrives (1 ∷ 0 ∷ [])) (inMinute 14)  -- P3: 3 and 0
+    ∷ point (arrives (1 ∷ 0 ∷ [])) (inMinute 13)  -- P3: 3 and 0
     ∷ point (arrives (1 ∷ 1 ∷ [])) (inMinute 14)  -- P4: 3 and 3
     ∷ point (entries 5) (counts 5 3)  -- P5
-    ∷ point (answered (shift 20 9 40)) yes  -- P6: room 9
-    ∷ point (answered (shift 20 8 40)) (refusal 12 0 0)  -- P7: room 8
-    ∷ point (lastLine (shift 13 1024 40)) (bytes (49 ∷ 32 ∷ 45 ∷ 32 ∷ 54 ∷ 52 ∷ 48 ∷ 48 ∷ 10 ∷ []))  -- P8: T = 13 gives `1 - 6400`
+    ∷ point (answered (shift 20 7 40)) yes  -- P6: room 7
+    ∷ point (answered (shift 20 6 40)) (refusal 12 0 0)  -- P7: room 6
+    ∷ point (lastLine (shift 13 1024 40)) (bytes (49 ∷ 32 ∷ 45 ∷ 32 ∷ 52 ∷ 48 ∷ 48 ∷ 48 ∷ 10 ∷ []))  -- P8: T = 13 gives `1 - 4000`
     ∷ point (answered (shift 12 1024 40)) yes  -- P9: T = 12
     ∷ point (answered (shift 11 1024 40)) (refusal 9 0 37)  -- P10: T = 11
     ∷ point (answered (shift 20 1024 41)) (refusal 10 0 52)  -- P11: weights 60 and 41

@@ -47,7 +47,7 @@ pub record Mark : Type 0 where
 abbrev pub stands : ℕ → Place → ℕ → Mark
 stands k p t = record { train = k; place = p; blocks = false; minute = t }
 
--- train k blocks p through minute t
+-- train k blocks p until minute t
 abbrev pub block : ℕ → Place → ℕ → Mark
 block k p t = record { train = k; place = p; blocks = true; minute = t }
 
@@ -132,9 +132,9 @@ paired C e f = any (λ c. names e f c || names f e c) (C .couples)
 
 -- ---- what happens in a minute
 
--- 1. blocks whose end is before t go: m is one of them
+-- 1. a block goes at the start of the minute that is its end, so that the element is free in it (request 3 of 02): m is a block whose end is t or earlier
 unfoldable pub ended : ℕ → Mark → Bool
-ended t m = m .blocks && ltb (m .minute) t
+ended t m = m .blocks && leb (m .minute) t
 
 -- 2. a train outside or on the element before e, whose next element it is and whose due minute is ≤ t, asks
 unfoldable pub asks : Case → ℕ → Place → Mark → Bool
@@ -152,9 +152,13 @@ sooner C a b =
 unfoldable pub dueAgain : Case → ℕ → ℕ → Place → ℕ
 dueAgain C t k e = t + plannedOn e (way C k)
 
--- leaving an element, it blocks it through minute t + safety time; nothing outside is blocked
+-- who leaves p leaves a block there; safety time 0 leaves no block at all (request 3 of 02), and nothing outside is blocked
+abbrev pub leavesBlock : Case → Place → Bool
+leavesBlock C p = ltb 0 (C .head .safety) && not (same p outside)
+
+-- leaving an element, it blocks it until minute t + safety time
 unfoldable pub leaving : Case → ℕ → Mark → List Mark
-leaving C t m = one (not (same (m .place) outside)) (block (m .train) (m .place) (t + C .head .safety))
+leaving C t m = one (leavesBlock C (m .place)) (block (m .train) (m .place) (t + C .head .safety))
 
 -- a mark that enters e at t: its standing mark, then its block
 unfoldable pub entered : Case → ℕ → Place → Mark → List Mark

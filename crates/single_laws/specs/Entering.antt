@@ -18,7 +18,7 @@ module _ (T : List ℕ) (t k : ℕ) (w : List ℕ) where
   unfolding leftIn
   left-length = go (ltb (getD w k 0) 65)
     where
-      go : (b : Bool) → length (cond b (set w (24 + getD w k 0 * 8 + k) (t + getD T 2 0 + 1)) w) ≡ length w
+      go : (b : Bool) → length (cond b (set w (24 + getD w k 0 * 8 + k) (t + getD T 2 0)) w) ≡ length w
       go true = simp length-set
       go false = refl
 
@@ -26,19 +26,19 @@ module _ (T : List ℕ) (t k : ℕ) (w : List ℕ) where
   unfolding leftIn
   left-other i d = go (ltb (getD w k 0) 65)
     where
-      go : (b : Bool) → getD (cond b (set w (24 + getD w k 0 * 8 + k) (t + getD T 2 0 + 1)) w) i 0 ≡ getD w i 0
-      go true = getD-set-other w (24 + getD w k 0 * 8 + k) i (t + getD T 2 0 + 1) 0 d
+      go : (b : Bool) → getD (cond b (set w (24 + getD w k 0 * 8 + k) (t + getD T 2 0)) w) i 0 ≡ getD w i 0
+      go true = getD-set-other w (24 + getD w k 0 * 8 + k) i (t + getD T 2 0) 0 d
       go false = refl
 
-  left-own : getD w k 0 < 65 → 24 + getD w k 0 * 8 + k < length w → getD (leftIn T t k w) (24 + getD w k 0 * 8 + k) 0 ≡ t + getD T 2 0 + 1
+  left-own : getD w k 0 < 65 → 24 + getD w k 0 * 8 + k < length w → getD (leftIn T t k w) (24 + getD w k 0 * 8 + k) 0 ≡ t + getD T 2 0
   unfolding leftIn
   left-own l m =
-      ap (λ (b : Bool). getD (cond b (set w (24 + getD w k 0 * 8 + k) (t + getD T 2 0 + 1)) w) (24 + getD w k 0 * 8 + k) 0) (lt-ltb (getD w k 0) 65 l)
-      ∙ getD-set-same w (24 + getD w k 0 * 8 + k) (t + getD T 2 0 + 1) 0 m
+      ap (λ (b : Bool). getD (cond b (set w (24 + getD w k 0 * 8 + k) (t + getD T 2 0)) w) (24 + getD w k 0 * 8 + k) 0) (lt-ltb (getD w k 0) 65 l)
+      ∙ getD-set-same w (24 + getD w k 0 * 8 + k) (t + getD T 2 0) 0 m
 
   left-outside : 65 ≤ getD w k 0 → leftIn T t k w ≡ w
   unfolding leftIn
-  left-outside l = ap (λ (b : Bool). cond b (set w (24 + getD w k 0 * 8 + k) (t + getD T 2 0 + 1)) w) (le-ltb (getD w k 0) 65 l)
+  left-outside l = ap (λ (b : Bool). cond b (set w (24 + getD w k 0 * 8 + k) (t + getD T 2 0)) w) (le-ltb (getD w k 0) 65 l)
 
 module _ (T : List ℕ) (t e k : ℕ) (w : List ℕ) where
   -- ---- standing
@@ -139,7 +139,7 @@ module _ (T : List ℕ) (t e k : ℕ) (w : List ℕ) (few : k < 8) (place : getD
       ∙ left-other T t k w (24 + i * 8 + j) (λ q. d (omega arith, omega arith))
 
   -- its block on what it leaves
-  pub entered-block : getD w k 0 < 65 → getD (enteredIn T t e k w) (24 + getD w k 0 * 8 + k) 0 ≡ t + getD T 2 0 + 1
+  pub entered-block : getD w k 0 < 65 → getD (enteredIn T t e k w) (24 + getD w k 0 * 8 + k) 0 ≡ t + getD T 2 0
   unfolding enteredIn
   entered-block l =
       arrived-other T t e k stood (24 + getD w k 0 * 8 + k) (λ q. omega arith)

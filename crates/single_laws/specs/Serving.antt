@@ -1,15 +1,15 @@
 -- A train served in the words is its pass: where it goes, its standing mark and its block in the words are what it enters as; where not, nothing changes.
 -- It has no block yet on what it leaves, since no train is twice on a place. Assumes nothing.
 use mathlib.Core.Path.{_≡_, refl, sym, ap, ap₂, _∙_, subst}
-use mathlib.Core.Bool.{Bool, true, false, not, _&&_, cond, and-false}
+use mathlib.Core.Bool.{Bool, true, false, not, _&&_, cond, and-false, and-true}
 use mathlib.Core.List.{List}
 use mathlib.Core.Option.{Option, none, some}
-use Prim.Native.Nat.{ℕ, zero, suc, _+_, _-_, _*_, _≤_, _<_}
+use Prim.Native.Nat.{ℕ, zero, suc, _+_, _*_, _≤_, _<_}
 use native.Mathlib.Nat.{zero-mul, one-mul, mul-one}
 use native.Mathlib.Omega.{arith}
 use lib.ListN.{length, getD}
 use lib.Dec.{ltb, eqb}
-use borrow.Author.Tests.{ltb-true, ltb-false, eqb-true, eqb-false, lt-ltb, eq-eqb, ne-eqb}
+use borrow.Author.Tests.{ltb-true, ltb-false, eqb-true, eqb-false, lt-ltb, le-ltb, eq-eqb, ne-eqb}
 use Rattle.rules.specs.Lists.{one, tick, sum, count, below}
 use Rattle.rules.specs.Files.{Case}
 use Rattle.rules.specs.Turns.{Place, same, Mark, stands, block, lastStation, asks, dueAgain, leaving, entered, State}
@@ -45,7 +45,7 @@ goes-sum : (x s b s′ b′ o new lv : ℕ) → x + o ≡ s + b + (0 * o + 1 * (
 goes-sum x s b s′ b′ o new lv h i j = omega (arith, zero-mul o, one-mul (new + lv))
 
 -- a part of a part that was nothing
-changed-sum : (b′ b i i′ x : ℕ) → b′ + i ≡ b + i′ → i′ + 0 ≡ i + x → b′ ≡ b + (x + 0)
+changed-sum : (b′ b i i′ x : ℕ) → b′ + i ≡ b + i′ → i′ + 0 ≡ i + x → b′ ≡ b + x
 changed-sum b′ b i i′ x g h = omega arith
 
 module _ (C : Case) (sound : Sound C) (t e k : ℕ) (low : k < length (C .trains)) (element : e ≤ 64) (w : List ℕ) (s : State Mark) (h : Shows C t w s) where
@@ -136,13 +136,17 @@ module _ (C : Case) (sound : Sound C) (t e k : ℕ) (low : k < length (C .trains
   abbrev left : Mark
   left = block k (placeOf here) (t + C .head .safety)
 
+  -- a safety time of 0 leaves no block
+  abbrev closes : Bool
+  closes = ltb 0 (C .head .safety)
+
   is-outside : same (placeOf here) outside ≡ eqb here 65
   unfolding placeOf
   is-outside = same-codes here 65 (h .placed k low) (omega arith)
 
-  -- a block's term, by the minute after its end
+  -- a block's term, by its end
   abbrev termOf : (Mark → ℕ) → ℕ → ℕ → ℕ → ℕ
-  termOf f i j v = tick (ltb t v) * f (block j (placeOf i) (v - 1))
+  termOf f i j v = tick (ltb t v) * f (block j (placeOf i) v)
 
   leaves-outside : (f : Mark → ℕ) → 65 ≤ here → blocksSum n t w′ f ≡ blocksSum n t w f + sum f (leaving C t old)
   unfolding leaving
@@ -152,7 +156,7 @@ module _ (C : Case) (sound : Sound C) (t e k : ℕ) (low : k < length (C .trains
       (λ i m. sum-below (blockTerm t w′ f i) (blockTerm t w f i) n
       (λ j q. ap (termOf f i j) (entered-outside (tables C) t e k w (few C sound low) (h .placed k low) (h .size) l i j)))
       ∙ none-more (blocksSum n t w f)
-      ∙ ap (λ (b : Bool). blocksSum n t w f + sum f (one (not b) left)) (sym (is-outside ∙ eq-eqb here 65 out))
+      ∙ ap (λ (b : Bool). blocksSum n t w f + sum f (one b left)) (sym (ap (λ (b : Bool). closes && not b) (is-outside ∙ eq-eqb here 65 out) ∙ and-false closes))
     where
       none-more : (x : ℕ) → x ≡ x + 0
       none-more x = omega arith
@@ -160,7 +164,7 @@ module _ (C : Case) (sound : Sound C) (t e k : ℕ) (low : k < length (C .trains
   leaves-element : (f : Mark → ℕ) → InOrder C s → here < 65 → blocksSum n t w′ f ≡ blocksSum n t w f + sum f (leaving C t old)
   unfolding leaving
   leaves-element f o l =
-      changed-sum (blocksSum n t w′ f) (blocksSum n t w f) (sum (blockTerm t w f here) (below n)) (sum (blockTerm t w′ f here) (below n)) (f left)
+      changed-sum (blocksSum n t w′ f) (blocksSum n t w f) (sum (blockTerm t w f here) (below n)) (sum (blockTerm t w′ f here) (below n)) (sum f (one closes left))
       (sum-change (λ i. sum (blockTerm t w′ f i) (below n)) (λ i. sum (blockTerm t w f i) (below n)) 65 here l
       (λ i m d. sum-below (blockTerm t w′ f i) (blockTerm t w f i) n
       (λ j q. ap (termOf f i j) (entered-blocks (tables C) t e k w mine (h .placed k low) (h .size) i j (few C sound q) (λ r. d (r .0))))))
@@ -168,7 +172,7 @@ module _ (C : Case) (sound : Sound C) (t e k : ℕ) (low : k < length (C .trains
       ∙ sum-change (blockTerm t w′ f here) (blockTerm t w f here) n k low
       (λ j q d. ap (termOf f here j) (entered-blocks (tables C) t e k w mine (h .placed k low) (h .size) here j (few C sound q) (λ r. d (r .1))))
       ∙ ap (λ (x : ℕ). sum (blockTerm t w f here) (below n) + x) new)
-      ∙ ap (λ (b : Bool). blocksSum n t w f + sum f (one (not b) left)) (sym (is-outside ∙ ne-eqb here 65 (λ q. omega arith)))
+      ∙ ap (λ (b : Bool). blocksSum n t w f + sum f (one b left)) (sym (ap (λ (b : Bool). closes && not b) (is-outside ∙ ne-eqb here 65 (λ q. omega arith)) ∙ and-true closes))
     where
       mine : k < 8
       mine = few C sound low
@@ -176,12 +180,22 @@ module _ (C : Case) (sound : Sound C) (t e k : ℕ) (low : k < length (C .trains
       gone-before : blockTerm t w f here k ≡ 0
       gone-before = ap (λ (b : Bool). tick b * f (blockIn w here k)) (free o l) ∙ zero-mul (f (blockIn w here k))
 
-      new : blockTerm t w′ f here k ≡ f left
+      later : ltb t (t + C .head .safety) ≡ closes
+      later = go closes refl
+        where
+          go : (b : Bool) → closes ≡ b → ltb t (t + C .head .safety) ≡ b
+          go true q = let m : 0 < C .head .safety = ltb-true 0 (C .head .safety) q in lt-ltb t (t + C .head .safety) (omega arith)
+          go false q = let m : C .head .safety ≤ 0 = ltb-false 0 (C .head .safety) q in le-ltb t (t + C .head .safety) (omega arith)
+
+      once : (b : Bool) → tick b * f left ≡ sum f (one b left)
+      once true = omega (arith, one-mul (f left))
+      once false = zero-mul (f left)
+
+      new : blockTerm t w′ f here k ≡ sum f (one closes left)
       new =
-          let v : t + C .head .safety + 1 - 1 ≡ t + C .head .safety = omega arith in
-          ap (termOf f here k) (entered-block (tables C) t e k w mine (h .placed k low) (h .size) l ∙ ap (λ (x : ℕ). t + x + 1) (table-safety C))
-          ∙ ap₂ (λ (b : Bool) (x : ℕ). tick b * f (block k (placeOf here) x)) (lt-ltb t (t + C .head .safety + 1) (omega arith)) v
-          ∙ one-mul (f left)
+          ap (termOf f here k) (entered-block (tables C) t e k w mine (h .placed k low) (h .size) l ∙ ap (λ (x : ℕ). t + x) (table-safety C))
+          ∙ ap (λ (b : Bool). tick b * f left) later
+          ∙ once closes
 
   leaves : (f : Mark → ℕ) → InOrder C s → blocksSum n t w′ f ≡ blocksSum n t w f + sum f (leaving C t old)
   leaves f o = go (ltb here 65) refl

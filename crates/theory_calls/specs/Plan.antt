@@ -13,7 +13,7 @@ use borrow.Author.Tests.{eqb-true, leb-true, leb-false}
 use Rattle.rules.specs.Lists.{tick, below, has}
 use Rattle.rules.specs.Refusals.Result.{answer}
 use Rattle.rules.specs.Files.{Track, Stop, Case, lastOf, repeats, files}
-use Rattle.rules.specs.Turns.{Place, same, Mark, block, Leg, leg, legs, trainAt, way, after, ahead, headIs, plannedOn, lastStation, elements, ended, asks, dueAgain, leaving, entered, Arrival, arriving, served}
+use Rattle.rules.specs.Turns.{Place, same, Mark, block, Leg, leg, legs, trainAt, way, after, ahead, headIs, plannedOn, lastStation, elements, ended, asks, dueAgain, leavesBlock, leaving, entered, Arrival, arriving, served}
 use Rattle.rules.specs.Turns.Place.{outside, station}
 use Rattle.rules.specs.Single.{firstArrival, waits, firstMarks, enters, serveTrain, singleRules, single, minuteOf, arrival}
 use Rattle.rules.specs.Joint.{choices, weightOf, joint, weightAt}
@@ -143,7 +143,7 @@ module _ (C : Case) (sound : Sound C) where
   unfolding entered leaving dueAgain
   entered-plan t e m a h = (
     λ q. omega (arith, a .due, h (a .stood), toGo-step (lastStation C (m .train)) C sound (m .train) (m .place) e (a .goes)),
-    every-one OnPlan (not (same (m .place) outside)) (block (m .train) (m .place) (t + C .head .safety)) (λ q r. absurd (false≢true (sym r))),
+    every-one OnPlan (leavesBlock C (m .place)) (block (m .train) (m .place) (t + C .head .safety)) (λ q r. absurd (false≢true (sym r))),
   )
 
   -- an arrival is not before its train's plan

@@ -6,7 +6,7 @@ use mathlib.Core.List.{List, [], _∷_, map}
 use Prim.Native.Nat.{ℕ, _+_}
 use Rattle.rules.specs.Lists.{one, each, keep}
 use Rattle.rules.specs.Files.{Case}
-use Rattle.rules.specs.Turns.{Place, same, Mark, stands, block, Leg, leg, way, after, headIs, lastStation, asks, dueAgain, leaving, entered, arriving, Served, served, Arrival, arrives}
+use Rattle.rules.specs.Turns.{Place, same, Mark, stands, block, Leg, leg, way, after, headIs, lastStation, asks, dueAgain, leavesBlock, leaving, entered, arriving, Served, served, Arrival, arrives}
 use Rattle.rules.specs.Turns.Place.{outside}
 use Rattle.rules.specs.Joint.{Cover, Entry, entry, Piece, covered}
 use Rattle.theory_sound.specs.Facts.{Sound}
@@ -30,7 +30,7 @@ placeBefore C k e = beforeOn e outside (way C k)
 -- the marks of train k when it enters e in minute t: its standing mark, then its block
 unfoldable pub newMarks : Case → ℕ → Place → ℕ → List Mark
 newMarks C t e k =
-    stands k e (dueAgain C t k e) ∷ one (not (same (placeBefore C k e) outside)) (block k (placeBefore C k e) (t + C .head .safety))
+    stands k e (dueAgain C t k e) ∷ one (leavesBlock C (placeBefore C k e)) (block k (placeBefore C k e) (t + C .head .safety))
 
 -- its arrival, if e is its last station
 unfoldable pub arrivalMarks : Case → ℕ → Place → ℕ → List (Arrival Mark)
@@ -81,7 +81,7 @@ module _ (C : Case) (sound : Sound C) (t : ℕ) (e : Place) where
     pub asksFor-entered : (m : Mark) → asksFor C t e k m ≡ true → entered C t e m ≡ newMarks C t e k
     unfolding entered leaving newMarks
     asksFor-entered m h =
-        ap₂ (λ (j : ℕ) (p : Place). stands j e (dueAgain C t j e) ∷ one (not (same p outside)) (block j p (t + C .head .safety))) (asksFor-train C t e k m h) (asksFor-place m h)
+        ap₂ (λ (j : ℕ) (p : Place). stands j e (dueAgain C t j e) ∷ one (leavesBlock C p) (block j p (t + C .head .safety))) (asksFor-train C t e k m h) (asksFor-place m h)
 
     pub asksFor-arriving : (m : Mark) → asksFor C t e k m ≡ true → arriving C t e m ≡ arrivalMarks C t e k
     unfolding arriving arrivalMarks

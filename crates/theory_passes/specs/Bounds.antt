@@ -8,7 +8,7 @@ use native.Mathlib.Omega.{arith}
 use lib.ListN.{length, getD, set}
 use Rattle.rules.specs.Lists.{any, below}
 use Rattle.rules.specs.Files.{Stop, Case}
-use Rattle.rules.specs.Turns.{Place, same, Mark, block, Leg, leg, trainAt, way, after, ahead, headIs, ended, asks, dueAgain, leaving, entered, State, state, Rules, Arrival}
+use Rattle.rules.specs.Turns.{Place, same, Mark, block, Leg, leg, trainAt, way, after, ahead, headIs, ended, asks, dueAgain, leavesBlock, leaving, entered, State, state, Rules, Arrival}
 use Rattle.rules.specs.Turns.Place.{outside}
 use Rattle.rules.specs.Single.{pairAt, firstArrival, waits}
 use Rattle.rules.specs.Joint.{Entry, entry, whole, firstList, checkList, jointRules}
@@ -96,7 +96,7 @@ module _ (C : Case) (sound : Sound C) where
       on-way = ahead-on (m .train) (m .place) e (asked C t e m ask .goes);
       in-time = omega (arith, h, sound .in-window, planned-low (C .head .lastMinute) e (way C (m .train)) (way-planned C sound (m .train)));
     },
-    every-one (Bounded C) (not (same (m .place) outside)) (block (m .train) (m .place) (t + C .head .safety))
+    every-one (Bounded C) (leavesBlock C (m .place)) (block (m .train) (m .place) (t + C .head .safety))
         (λ q. record {
           of-case = b .of-case;
           on-way = b .on-way;

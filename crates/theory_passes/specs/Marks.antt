@@ -6,8 +6,7 @@ use mathlib.Core.List.{List, [], _∷_, map}
 use Prim.Native.Nat.{ℕ, _+_}
 use Rattle.rules.specs.Lists.{keep}
 use Rattle.rules.specs.Files.{Case}
-use Rattle.rules.specs.Turns.{Place, same, Mark, block, leaving, entered, arriving, served, Rules}
-use Rattle.rules.specs.Turns.Place.{outside}
+use Rattle.rules.specs.Turns.{Place, Mark, block, leavesBlock, leaving, entered, arriving, served, Rules}
 use Rattle.rules.specs.Single.{enters, serveTrain, singleRules}
 use Rattle.rules.specs.Joint.{entry, Piece, pieces, serveEntry, jointRules}
 use Rattle.theory_lists.specs.Every.{Every, every-map, every-each, every-all, every-one}
@@ -49,7 +48,7 @@ Own {A} R = (t : ℕ) (e : Place) (l : List A) (a : A)
 entered-train : (C : Case) (t : ℕ) (e : Place) (m : Mark) → Every (λ i. i .train ≡ m .train) (entered C t e m)
 unfolding entered leaving
 entered-train C t e m =
-    (refl, every-one (λ i. i .train ≡ m .train) (not (same (m .place) outside)) (block (m .train) (m .place) (t + C .head .safety)) (λ h. refl))
+    (refl, every-one (λ i. i .train ≡ m .train) (leavesBlock C (m .place)) (block (m .train) (m .place) (t + C .head .safety)) (λ h. refl))
 
 own : {A : Type 0} (C : Case) (R : Rules A) → Marks C R → Own R
 own C R h t e l a = h (λ m. m .train ≡ R .mark a .train) t e l a refl (entered-train C t e (R .mark a))

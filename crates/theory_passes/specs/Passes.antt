@@ -72,7 +72,7 @@ passTrain C t e k s =
 
 -- ---- minutes of passes
 
--- the blocks that end before t are gone
+-- the blocks that have ended by t are gone
 abbrev pub cleared : {A : Type 0} → (A → Mark) → ℕ → State A → State A
 cleared mark t s = state (keep (λ a. not (ended t (mark a))) (s .list)) (s .arrived) (s .met)
 

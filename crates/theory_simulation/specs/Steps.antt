@@ -11,7 +11,7 @@ use lib.Dec.{ltb, eqb}
 use borrow.Author.Tests.{eqb-true, ltb-true, ltb-false, lt-ltb, eq-eqb}
 use Rattle.rules.specs.Lists.{one, keep, tick, sum, count}
 use Rattle.rules.specs.Files.{Case}
-use Rattle.rules.specs.Turns.{Place, same, Mark, stands, block, lastStation, capacity, paired, ended, asks, dueAgain, leaving, entered, Arrival, arrives, arriving, served}
+use Rattle.rules.specs.Turns.{Place, same, Mark, stands, block, lastStation, capacity, paired, ended, asks, dueAgain, leavesBlock, leaving, entered, Arrival, arrives, arriving, served}
 use Rattle.rules.specs.Turns.Place.{outside, gone}
 use Rattle.rules.specs.Single.{trainsOn, partnerHeld, enters, serveTrain}
 use Rattle.rules.specs.Demands.{isAt, isStanding}
@@ -28,16 +28,16 @@ use Rattle.theory_simulation.specs.Orderly.{isOn, toGo, isBefore, reach,
 -- ---- a sum after a step
 
 -- the sum of the list around a mark
-sum-around : (f : Mark → ℕ) (b : List Mark) (m : Mark) (c : List Mark) → sum f (b ++ (m ∷ c)) ≡ sum f b + sum f c + f m
+pub sum-around : (f : Mark → ℕ) (b : List Mark) (m : Mark) (c : List Mark) → sum f (b ++ (m ∷ c)) ≡ sum f b + sum f c + f m
 sum-around f b m c = omega (arith, sum-append f b (m ∷ c))
 
-sum-entered : (f : Mark → ℕ) (b c new : List Mark) → sum f (b ++ [] ++ c ++ new) ≡ sum f b + sum f c + sum f new
+pub sum-entered : (f : Mark → ℕ) (b c new : List Mark) → sum f (b ++ [] ++ c ++ new) ≡ sum f b + sum f c + sum f new
 sum-entered f b c new = omega (arith, sum-append f (b ++ [] ++ c) new, sum-append f (b ++ []) c, sum-append f b [])
 
 -- what a mark leaves counts at the most as a block on its place
 leaving-le : (f : Mark → ℕ) (C : Case) (t : ℕ) (m : Mark) → sum f (leaving C t m) ≤ f (block (m .train) (m .place) (t + C .head .safety))
 unfolding leaving
-leaving-le f C t m = sum-one-le f (not (same (m .place) outside)) (block (m .train) (m .place) (t + C .head .safety))
+leaving-le f C t m = sum-one-le f (leavesBlock C (m .place)) (block (m .train) (m .place) (t + C .head .safety))
 
 -- a mark and, where c holds, a block on some place: a test that no block of the train passes counts the mark alone
 block-passes-not : (test : Mark → Bool) (k : ℕ) → ((p : Place) (n : ℕ) → test (block k p n) ≡ false) → (m : Mark) (c : Bool) (p : Place) (n : ℕ)
@@ -53,7 +53,7 @@ entered-stands test C t e m h = search (block-passes-not test (m .train))
 
 module _ (C : Case) (sound : Sound C) (t : ℕ) (e : Place) (m : Mark) (ask : asks C t e m ≡ true) where
   -- an asker comes nearer to its end
-  nearer : (j : ℕ) → eqb (m .train) j ≡ true → toGo C j e < toGo C j (m .place)
+  pub nearer : (j : ℕ) → eqb (m .train) j ≡ true → toGo C j e < toGo C j (m .place)
   nearer j q = subst (λ (k : ℕ). toGo C k e < toGo C k (m .place)) (eqb-true (m .train) j q) (sound .onward (m .train) (m .place) e (asked C t e m ask .goes))
 
   stood : (b : Bool) → (b && not (m .blocks)) ≡ b
@@ -234,7 +234,7 @@ end-standing : (t j : ℕ) (ms : List Mark) → count (isStanding j) (keep (λ m
 unfolding ended
 end-standing t j ms =
     sum-each (λ m. tick (isStanding j m)) (λ m. one (not (ended t m)) m) ms
-    ∙ sum-every (λ m. Unit) (λ m. sum (λ a. tick (isStanding j a)) (one (not (ended t m)) m)) (λ m. tick (isStanding j m)) (λ m u. go m (m .blocks) (ltb (m .minute) t) refl)
+    ∙ sum-every (λ m. Unit) (λ m. sum (λ a. tick (isStanding j a)) (one (not (ended t m)) m)) (λ m. tick (isStanding j m)) (λ m u. go m (m .blocks) _ refl)
     ms (every-all (λ m. Unit) (λ m. tt) ms)
   where
     go : (m : Mark) (b l : Bool) → m .blocks ≡ b → sum (λ a. tick (isStanding j a)) (one (not (b && l)) m) ≡ tick (isStanding j m)

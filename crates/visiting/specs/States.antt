@@ -1,9 +1,10 @@
 -- What the rows after a pass show: states from before, the new standing state, and the block. Assumes nothing.
+use mathlib.Core.Path.{_≡_}
 use mathlib.Core.Bool.{Bool, true, false, cond}
 use mathlib.Core.List.{List, [], _∷_}
 use Prim.Native.Nat.{ℕ}
 use Rattle.rules.specs.Lists.{one, each}
-use Rattle.theory_lists.specs.Every.{Every, every-append, every-each, every-map, every-all}
+use Rattle.theory_lists.specs.Every.{Every, every-append, every-each, every-map, every-one, every-all}
 use Rattle.cut.specs.Cut.{Met, cutBy, heldOf}
 use Rattle.rows.specs.Rows.{Row, row, heldRows, enteredRows}
 use Rattle.asking.specs.declared.Job.{Job}
@@ -19,17 +20,13 @@ hold-states P T q m r h = go (askingOf T q r)
         (every-all (λ c. Unit) (λ c. tt) (heldOf (cutBy m (r .cover))))
     go false = (h, tt)
 
-entered-states : (P : ℕ → Type 0) (s b : ℕ) (two : Bool) (cs : List ℕ) → P s → P b → Every (λ x. P (x .state)) (enteredRows s b two cs)
+entered-states : (P : ℕ → Type 0) (s b : ℕ) (two : Bool) (cs : List ℕ) → P s → (two ≡ true → P b) → Every (λ x. P (x .state)) (enteredRows s b two cs)
 unfolding enteredRows
 entered-states P s b two cs h k =
-    every-each (λ c. Unit) (λ x. P (x .state)) (λ c. row s c ∷ one two (row b c)) (λ c u. (h, go c two)) cs (every-all (λ c. Unit) (λ c. tt) cs)
-  where
-    go : (c : ℕ) (z : Bool) → Every (λ x. P (x .state)) (one z (row b c))
-    go c true = (k, tt)
-    go c false = tt
+    every-each (λ c. Unit) (λ x. P (x .state)) (λ c. row s c ∷ one two (row b c)) (λ c u. (h, every-one (λ x. P (x .state)) two (row b c) k)) cs (every-all (λ c. Unit) (λ c. tt) cs)
 
--- the rows after a pass show states from before, the new standing state, and the block
-pub passed-states : (P : ℕ → Type 0) (T : List ℕ) (q : Job) (l : List Row) → P (q .stands) → P (q .blocks) → Every (λ x. P (x .state)) l → Every (λ x. P (x .state)) (passedOf T q l)
+-- the rows after a pass show states from before, the new standing state and, where one is left, the block
+pub passed-states : (P : ℕ → Type 0) (T : List ℕ) (q : Job) (l : List Row) → P (q .stands) → (q .two ≡ true → P (q .blocks)) → Every (λ x. P (x .state)) l → Every (λ x. P (x .state)) (passedOf T q l)
 unfolding passedOf
 passed-states P T q l h k all =
     every-append (λ x. P (x .state)) (each (holdRow T q (metFor q l)) l) (enteredRows (q .stands) (q .blocks) (q .two) (coversOf T q l))

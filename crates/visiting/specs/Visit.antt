@@ -100,7 +100,7 @@ pub record Keyed (T : List ℕ) (t e k key : ℕ) (l : List Row) : Type 0 where
   pub low : key < 4294967296
   pub asks : Every (λ r. asksOf T t e k (r .state) ≡ reachOf key t (r .state)) l
 
--- what is noted of the rows l in minute t: they are calm, their minutes are shown, and none is a block that ended before t
+-- what is noted of the rows l in minute t: they are calm, their minutes are shown, and none is a block that has ended by t
 pub record Noted (T : List ℕ) (t : ℕ) (N : List ℕ) (l : List Row) : Type 0 where
   pub calm : Calm T (t + 1) (stirIn N) (askedIn N) l
   pub shown : Every (λ r. getD N (2176 + r .state % 4096) 0 ≡ 0 → ⊥) l

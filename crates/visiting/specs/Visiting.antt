@@ -1,22 +1,23 @@
 -- The pass in code, read as an outcome, is the pass on rows. Rows are calm before and after, so the pass of the rows that were stirred is the pass. The lent
 -- rows have one place more than the room, so rows that leave no place are refused. Assumes nothing.
 use mathlib.Core.Path.{_≡_, refl, ap, ap₂, sym, _∙_, subst}
-use mathlib.Core.Bool.{Bool, true, false, cond, _||_, or-true}
+use mathlib.Core.Bool.{Bool, true, false, not, cond, _||_, or-true}
 use mathlib.Core.List.{List, [], _∷_, _++_, append-assoc}
 use Prim.Native.Nat.{ℕ, _+_, _*_, _/_, _%_, _≤_, _<_}
 use native.Mathlib.Decide.{decLt}
 use native.Mathlib.Omega.{arith}
 use lib.ListN.{length, take, getD}
 use lib.Seq.{slice}
-use lib.Dec.{eqb, ltb}
-use borrow.Author.Tests.{lt-ltb, le-ltb, eqb-true}
+use lib.Dec.{eqb, ltb, leb}
+use borrow.Author.Tests.{lt-ltb, le-ltb, lt-leb, ltb-true, eqb-true}
 use Rattle.rules.specs.Lists.{any}
+use Rattle.theory_lists.specs.Tests.{and-true-first}
 use Rattle.theory_lists.specs.Every.{Every, every-more, any-append}
 use Rattle.rows.specs.Rows.{Row, rowsOf, rowsIn, rowAt, endedOf}
 use Rattle.rows.specs.Written.{rowsOf-words, rowsIn-more, rows-split}
 use Rattle.weigh.specs.Weigh.{Small}
 use Rattle.asking.specs.declared.Job.{Job}
-use Rattle.asking.specs.Ask.{asksOf, askerOf, jobOf, reachOf, stirsOf, stirredOf, metFor, Within}
+use Rattle.asking.specs.Ask.{asksOf, askerOf, leavesOf, jobOf, reachOf, stirsOf, stirredOf, metFor, Within}
 use Rattle.serving.specs.declared.Ends.{Ends}
 use Rattle.serving.specs.Pass.{holdBy, enterBy, coversBy, passBy, holdStirred, enterStirred, coversOf, passedOf, stirredCovers, stirredPass, Went, Passed}
 use Rattle.serving.specs.Passing.{pass-same, covers-same, went-same}
@@ -68,7 +69,7 @@ module _ (T : List ℕ) (t e k i n : ℕ) (rows : List ℕ) (before : i < n) (lo
 
 -- ---- a pass that is made
 
--- neither a standing state nor the new block is one that ended
+-- neither a standing state nor the new block, where there is one, is one that has ended
 module _ (T : List ℕ) (t e k s : ℕ) (within : Within t e k) (small : Small T) (ways : Ways T) where
   stands-current : endedOf t (jobOf T t e k s .stands) ≡ false
   unfolding jobOf endedOf
@@ -77,20 +78,23 @@ module _ (T : List ℕ) (t e k s : ℕ) (within : Within t e k) (small : Small T
       x : ℕ
       x = k * 524288 + e * 4096 + (t + getD T (1264 + (k * 128 + e)) 0)
 
-      go : (b : Bool) → eqb (x / 2048 % 2) 1 ≡ b → cond b (ltb (x % 2048) t) false ≡ false
+      go : (b : Bool) → eqb (x / 2048 % 2) 1 ≡ b → cond b (leb (x % 2048) t) false ≡ false
       go false h = refl
       go true h = absurd (omega (arith, eqb-true (x / 2048 % 2) 1 h, within .minute, within .place, ways .stays (k * 128 + e) (omega (arith, within .place, within .train))))
 
-  blocks-current : endedOf t (jobOf T t e k s .blocks) ≡ false
-  unfolding jobOf endedOf
-  blocks-current = go (eqb (x / 2048 % 2) 1)
+  blocks-current : jobOf T t e k s .two ≡ true → endedOf t (jobOf T t e k s .blocks) ≡ false
+  unfolding jobOf endedOf leavesOf
+  blocks-current two = go (eqb (x / 2048 % 2) 1)
     where
       x : ℕ
       x = k * 524288 + s / 4096 % 128 * 4096 + 2048 + (t + getD T 2 0)
 
-      go : (b : Bool) → cond b (ltb (x % 2048) t) false ≡ false
+      some : 0 < getD T 2 0
+      some = ltb-true 0 (getD T 2 0) (and-true-first (ltb 0 (getD T 2 0)) (not (eqb (s / 4096 % 128) 65)) two)
+
+      go : (b : Bool) → cond b (leb (x % 2048) t) false ≡ false
       go false = refl
-      go true = le-ltb (x % 2048) t (omega (arith, within .minute, small .safety))
+      go true = lt-leb (x % 2048) t (omega (arith, within .minute, small .safety, some))
 
 module _ (T : List ℕ) (t e k n s : ℕ) (rows weights N : List ℕ)
     (within : Within t e k) (small : Small T) (ways : Ways T) (room : length rows ≡ getD T 3 0 * 2 + 2) (fits : n * 2 < length rows)
@@ -144,7 +148,7 @@ module _ (T : List ℕ) (t e k n s : ℕ) (rows weights N : List ℕ)
     noted-after = record {
       calm = calm-passed T J (stirIn N) (askedIn N) (stirIn M) (askedIn M) L (s / 4096 % 128) moved (job-ready T t e k s within small ways near asks) (after .spread) (noted .calm) went;
       shown = subst (Every (λ r. getD M (2176 + r .state % 4096) 0 ≡ 0 → ⊥)) pass-is
-          (passed-states (λ x. getD M (2176 + x % 4096) 0 ≡ 0 → ⊥) T J L (after .stands-shown) (after .blocks-shown)
+          (passed-states (λ x. getD M (2176 + x % 4096) 0 ≡ 0 → ⊥) T J L (after .stands-shown) (λ two. after .blocks-shown)
           (every-more (λ r. getD N (2176 + r .state % 4096) 0 ≡ 0 → ⊥) (λ r. getD M (2176 + r .state % 4096) 0 ≡ 0 → ⊥) (λ r h x. h (after .minutes (r .state % 4096) (omega arith) x)) L (noted .shown)));
       current = subst (Every (λ r. endedOf t (r .state) ≡ false)) pass-is
           (passed-states (λ x. endedOf t x ≡ false) T J L (stands-current T t e k s within small ways) (blocks-current T t e k s within small ways) (noted .current));

@@ -67,9 +67,12 @@ add-t21 c = omega (arith, c .before .before .before .before .before .pre .0 .min
 add-t22 : tie.Need-add-t22
 add-t22 c = omega (arith, c .before .before .before .before .before .pre .0 .train, c .before .before .before .before .before .pre .0 .minute, c .before .at2 .ensures, c .before .before .before .before .before .pre .1 .words 2)
 
+leaves-block-requires : tie.Need-leaves-block-requires
+leaves-block-requires c κs = search needs
+
 returns : tie.Need-returns
 unfolding jobOf
-returns c = simp (c .before .before .before .capacity .ensures, c .before .before .at .ensures, c .before .at2 .ensures, c .at3 .ensures)
+returns c = simp (c .before .before .before .before .capacity .ensures, c .before .before .before .at .ensures, c .before .before .at2 .ensures, c .before .at3 .ensures, c .leaves-block .ensures)
 
 pub assign-spec : {M : Type 1} → statement M
 assign-spec =
@@ -94,4 +97,5 @@ assign-spec =
     add-t20
     add-t21
     add-t22
+    leaves-block-requires
     returns)

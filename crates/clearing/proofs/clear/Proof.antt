@@ -1,4 +1,4 @@
--- `clearing::clear` meets its contract, by whether a row shows that it ended in the minute before. Assumes nothing.
+-- `clearing::clear` meets its contract, by whether a row shows that it ends in this minute. Assumes nothing.
 use native.Mathlib.Omega.{arith}
 use Rattle.clearing.specs.Clearing.{clear-still, clear-done}
 use borrow.Author.Needs.{needs}

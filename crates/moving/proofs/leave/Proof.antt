@@ -25,9 +25,6 @@ add-put c = search needs
 add-put-2 : tie.Need-add-put-2
 add-put-2 c = search needs
 
-add-put-3 : tie.Need-add-put-3
-add-put-3 c = omega (arith, c .before .at2 .ensures, c .before .before .before .before .before .before .before .pre .0 2)
-
 put-requires : tie.Need-put-requires
 put-requires c κs = search needs
 
@@ -55,7 +52,6 @@ leave-spec =
     mul-put
     add-put
     add-put-2
-    add-put-3
     put-requires
     same-length
     returns
