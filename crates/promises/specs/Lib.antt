@@ -6,3 +6,4 @@ pub mod Shown
 pub mod Outcomes
 pub mod Promises
 pub mod Plain
+pub mod Freed

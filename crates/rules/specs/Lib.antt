@@ -12,6 +12,7 @@ pub mod Answers
 pub mod Calls
 pub mod Program
 pub mod Demands
+pub mod Freed
 pub mod Decoded
 pub mod Plain
 pub mod Promised

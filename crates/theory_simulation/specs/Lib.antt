@@ -13,3 +13,6 @@ pub mod Start
 pub mod Meeting
 pub mod Choices
 pub mod Simulation
+pub mod Visited
+pub mod Blocks
+pub mod Freed
