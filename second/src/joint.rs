@@ -61,7 +61,7 @@ impl JointRun {
         Ok(joint)
     }
 
-    /// Visits one minute: old blocks go, then the elements are visited and their asking entries served.
+    /// Visits one minute: the blocks that end go, then the elements are visited and their asking entries served.
     pub fn visit(&mut self, plan: &Plan, t: u32) -> Result<(), u8> {
         self.list
             .retain(|entry| entry.kind == Kind::Stands || still_blocks(entry.minute, t));
@@ -100,7 +100,7 @@ impl JointRun {
         self.judge_room(plan)
     }
 
-    /// An entering piece adds its standing entry and, unless it came from outside, its block; it may arrive.
+    /// An entering piece adds its standing entry and then the block that there is to leave; it may arrive.
     fn enter(&mut self, plan: &Plan, asker: &Entry, element: Place, t: u32, cover: Cover) {
         let train = asker.train;
         self.list.push(Entry {
@@ -110,12 +110,12 @@ impl JointRun {
             minute: t + plan.planned_length(train, element),
             cover: cover.clone(),
         });
-        if asker.place != Place::Outside {
+        if let Some(end) = plan.block_left(asker.place, t) {
             self.list.push(Entry {
                 train,
                 place: asker.place,
                 kind: Kind::Blocks,
-                minute: t + plan.head.safety,
+                minute: end,
                 cover: cover.clone(),
             });
         }

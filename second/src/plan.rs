@@ -102,6 +102,13 @@ impl Plan {
         self.case.trains[train].stops[0].arrival + self.tables[train].delays[delay].minutes
     }
 
+    /// The end of the block that a train leaves behind in minute t: t plus the safety time. Outside nothing is blocked, and a block that would be gone in
+    /// minute t itself, as with a safety time of 0, is never left.
+    pub fn block_left(&self, left: Place, t: u32) -> Option<u32> {
+        let end = t + self.head.safety;
+        (left != Place::Outside && still_blocks(end, t)).then_some(end)
+    }
+
     /// Askers are served by priority, then by train number.
     pub fn rank(&self, train: usize) -> (u8, usize) {
         (self.case.trains[train].priority, train)
@@ -113,9 +120,9 @@ impl Plan {
     }
 }
 
-/// Whether a block with this end still stands in minute t: it goes when its end is before t.
+/// Whether a block with this end stands in minute t: it goes at the start of the minute that is its end, so that the element is free in that minute.
 pub fn still_blocks(end: u32, t: u32) -> bool {
-    end >= t
+    end > t
 }
 
 /// The way of a train: outside, then stations and tracks in turn, then gone.

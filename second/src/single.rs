@@ -9,7 +9,7 @@ pub struct Standing {
     pub due: u32,
 }
 
-/// A train that left an element blocks it through the end minute, that minute included.
+/// A train that left an element blocks it up to the end minute; in that minute the element is free.
 #[derive(Clone, Copy, Debug, PartialEq, Eq, PartialOrd, Ord)]
 pub struct Block {
     pub train: usize,
@@ -65,7 +65,7 @@ fn start(plan: &Plan, choice: &[u8]) -> State {
     }
 }
 
-/// Visits one minute: old blocks go, then the elements are visited and their askers served.
+/// Visits one minute: the blocks that end go, then the elements are visited and their askers served.
 fn visit(plan: &Plan, state: &mut State, t: u32, arrivals: &mut [Option<u32>]) {
     state.blocks.retain(|block| still_blocks(block.end, t));
     for element in plan.elements() {
@@ -116,15 +116,11 @@ fn is_on(state: &State, train: usize, element: Place) -> bool {
     stands || state.blocks.iter().any(blocks)
 }
 
-/// The train leaves its element blocked, stands on the next and is due after its planned length there.
+/// The train leaves its element, with the block that there is to leave, stands on the next and is due after its planned length there.
 fn enter(plan: &Plan, state: &mut State, train: usize, element: Place, t: u32) {
-    let left = state.standing[train].place;
-    if left != Place::Outside {
-        state.blocks.push(Block {
-            train,
-            place: left,
-            end: t + plan.head.safety,
-        });
+    let place = state.standing[train].place;
+    if let Some(end) = plan.block_left(place, t) {
+        state.blocks.push(Block { train, place, end });
     }
     state.standing[train] = Standing {
         place: element,

@@ -97,7 +97,7 @@ fn refusal_14_comes_first_and_writes_nothing() {
 #[test]
 fn other_refusals_set_the_required_part_to_zero() {
     let mut small = shift_example();
-    small[6..8].copy_from_slice(&[0, 8]);
+    small[6..8].copy_from_slice(&[0, 6]);
     let mut lent = Lent::ample();
     assert_eq!(lent.run(&[], 0), Err(Refusal::at(5, 0, 0)));
     assert!(lent.is_zero() && lent.rest_is_untouched());
@@ -125,7 +125,8 @@ fn an_answer_fills_the_required_part() {
     expected[6] = 6_000;
     expected[9] = 4_000;
     expected[720 + 11] = 3_600;
-    expected[720 + 14] = 6_400;
+    expected[720 + 13] = 2_400;
+    expected[720 + 14] = 4_000;
     assert_eq!(lent.weights[..WEIGHTS], expected);
     let mut of_run = Lent::ample();
     let rows = of_run.run(&shift_example(), 20).expect("accepted");
@@ -150,14 +151,15 @@ fn refusal_15_comes_before_16_in_the_single_run() {
 
 #[test]
 fn refusal_17_comes_before_12_and_a_stopped_run_meets_12_only_so_far() {
+    // The list is longest, with 7 entries, for the first time after minute 6.
     let mut case = shift_example();
-    case[6..8].copy_from_slice(&[0, 8]);
+    case[6..8].copy_from_slice(&[0, 6]);
     let mut lent = Lent::ample();
     assert_eq!(lent.run(&case, 21), call(17));
     assert_eq!(lent.run(&case, 5), Ok(5));
     let first_refused = (0..=20).find(|stop| lent.run(&case, *stop) == call(12));
-    let first_refused = first_refused.expect("room 8 is too small");
-    assert!((first_refused..=20).all(|stop| lent.run(&case, stop) == call(12)));
+    assert_eq!(first_refused, Some(6));
+    assert!((6..=20).all(|stop| lent.run(&case, stop) == call(12)));
     case[7] = 3;
     assert_eq!(lent.run(&case, 0), call(12));
     assert_eq!(lent.run(&case, 21), call(17));
@@ -172,20 +174,25 @@ fn figures_of(case: &[u8], train: usize, limit: u16) -> second::figures::Figures
 
 #[test]
 fn figures_of_the_shift_example() {
+    // Train 1 is planned for minute 11 and arrives in minutes 11, 13 and 14 with 3,600, 2,400 and 4,000.
     let case = shift_example();
-    let one = figures_of(&case, 1, 2);
-    assert_eq!(one.punctuality, Punctuality::Share(3_600.0 / 10_000.0));
-    let shares = Shares {
-        on_time: 0.36,
-        late: 0.64,
-        missing: 0.0,
-    };
-    assert_eq!(one.shares, shares);
-    let lateness = Lateness {
-        sum: 3 * 6_400,
-        weight: 10_000,
-    };
-    assert_eq!(one.lateness, lateness);
+    for (limit, on_time) in [(0, 0.36), (1, 0.36), (2, 0.6)] {
+        let one = figures_of(&case, 1, limit);
+        assert_eq!(one.punctuality, Punctuality::Share(on_time));
+        let late = if limit == 2 { 0.4 } else { 0.64 };
+        let missing = 0.0;
+        let shares = Shares {
+            on_time,
+            late,
+            missing,
+        };
+        assert_eq!(one.shares, shares);
+        let lateness = Lateness {
+            sum: 2 * 2_400 + 3 * 4_000,
+            weight: 10_000,
+        };
+        assert_eq!(one.lateness, lateness);
+    }
     assert_eq!(figures_of(&case, 1, 3).punctuality, Punctuality::Always);
     assert_eq!(
         figures_of(&case, 1, 65_535).punctuality,
@@ -194,11 +201,11 @@ fn figures_of_the_shift_example() {
     let mut short = case.clone();
     short[4] = 13;
     let cut_off = figures_of(&short, 1, 65_535);
-    assert_eq!(cut_off.punctuality, Punctuality::Share(0.36));
-    assert_eq!((cut_off.shares.late, cut_off.shares.missing), (0.0, 0.64));
+    assert_eq!(cut_off.punctuality, Punctuality::Share(0.6));
+    assert_eq!((cut_off.shares.late, cut_off.shares.missing), (0.0, 0.4));
     let lateness = Lateness {
-        sum: 0,
-        weight: 3_600,
+        sum: 2 * 2_400,
+        weight: 6_000,
     };
     assert_eq!(cut_off.lateness, lateness);
 }

@@ -24,6 +24,8 @@ struct Seen {
     held_at_partner: usize,
     /// Of each choice and minute, the couples of which one track holds a train.
     taken: usize,
+    /// The answered cases with a safety time of 0, of 1 and above.
+    by_safety: [usize; 3],
 }
 
 /// Runs one case in step with the single runs of all its choices and compares after every minute.
@@ -52,6 +54,7 @@ fn compare(files: &Files, seen: &mut Seen) {
     }
     assert_eq!(joint.arrivals, arrivals(&plan));
     seen.answered += 1;
+    seen.by_safety[plan.head.safety.min(2) as usize] += 1;
     seen.not_arrived += runs
         .iter()
         .filter(|run| run.arrivals.contains(&None))
@@ -152,6 +155,7 @@ fn assert_contention(seen: &Seen) {
 fn two_to_five_trains_with_one_to_four_delays() {
     let seen = compare_seeds(1..801, size((2, 5), (1, 4), 1));
     assert!(seen.answered > 700 && seen.not_arrived > 0);
+    assert!(seen.by_safety.iter().all(|cases| *cases > 150));
     assert_contention(&seen);
 }
 
@@ -193,6 +197,7 @@ fn two_to_five_trains_that_meet() {
     let size = size((2, 5), (1, 4), 1);
     let seen = compare_drawn(6_001..6_301, |chance| meeting(chance, size));
     assert!(seen.answered > 200 && seen.not_arrived > 0);
+    assert!(seen.by_safety.iter().all(|cases| *cases > 50));
     assert_meetings(&seen);
     assert_contention(&seen);
 }

@@ -1,14 +1,16 @@
 //! What document 000 gives in a form that can be compared: table 4.1 and example 2.2.5 up to minute 5.
 //!
 //! Example 2.2.5 in this format: station 0 is v0, station 1 is v1, track 0 is e = (v0, v1), all of capacity 1 (the
-//! example's sentence on capacities numbers the stations from 1, its paths from 0); safety time 1; both trains have the
+//! example's sentence on capacities numbers the stations from 1, its paths from 0); both trains have the
 //! delays 0, 1, 2. The example gives no probabilities, priorities or last minute: weights 50, 30, 20, equal priorities
 //! and T = 20 are added here, and none of them is compared.
 //!
 //! Where 01 differs from document 000, and what that means here:
 //! - 01 visits every minute, document 000 only some. The minutes 1 to 5 are all among the example's time points.
-//! - A block ends where the example's does: a train that leaves at minute 2 blocks up to and including minute 3.
-//!   01 drops old blocks of all elements at the start of a minute, document 000 those of one element when it is visited.
+//! - The example blocks for one minute, and clears a block when its time is strictly before the minute, "which makes the effective blocking time more so two
+//!   minutes": a train that leaves at minute 2 blocks up to and including minute 3. By request 3 of 02 that is a safety time of 2, and the block's minute is
+//!   not the last that is blocked but the first that is free: 4. So each block's minute is here one more than in the example. 01 drops old blocks of all
+//!   elements at the start of a minute, document 000 those of one element when it is visited.
 //! - Nothing outside is blocked in 01; the example leaves the blocks on the edge (s, v0) out of its account too.
 //! - 01 leaves one held piece per entry met, document 000 one held instance with the whole complement. At minute 4 the
 //!   example has one held instance {p0 in {1, 2}, p1 = 0}, 01 has two rows, {p0 = 1, p1 = 0} and {p0 = 2, p1 = 0}: their
@@ -54,12 +56,12 @@ fn stands(train: usize, p0: u8, p1: u8, minute: u32, place: Place) -> Entry {
     }
 }
 
-/// A blocking instance (train, scenario, minute) at a place.
+/// A blocking instance (train, scenario, minute) at a place, with the minute that document 000 gives it: the last that is blocked.
 fn blocks(train: usize, p0: u8, p1: u8, minute: u32, place: Place) -> Entry {
     let kind = Kind::Blocks;
     Entry {
         kind,
-        ..stands(train, p0, p1, minute, place)
+        ..stands(train, p0, p1, minute + 1, place)
     }
 }
 

@@ -23,14 +23,14 @@ fn arrivals(case: &[u8], choice: &[u8]) -> Vec<Option<u32>> {
 
 #[test]
 fn partners_are_named_by_either_track_of_a_couple() {
-    let plan = Plan::read(&passing_station(), &[]).expect("a sound case");
+    let plan = Plan::read(&passing_station(1), &[]).expect("a sound case");
     let track = Place::Track;
     let partners = [0, 1, 2, 3].map(|number| plan.partner(track(number)));
     assert_eq!(partners, [1, 0, 3, 2].map(|number| Some(track(number))));
     for place in [Place::Outside, Place::Station(0), Place::Gone] {
         assert_eq!(plan.partner(place), None);
     }
-    let mut uncoupled = passing_station();
+    let mut uncoupled = passing_station(1);
     uncoupled.truncate(uncoupled.len() - 5);
     let plan = Plan::read(&uncoupled, &[]).expect("a sound case");
     let partners = [0, 1, 2, 3].map(|number| plan.partner(track(number)));
@@ -39,14 +39,35 @@ fn partners_are_named_by_either_track_of_a_couple() {
 
 #[test]
 fn two_trains_meet_at_a_passing_station_in_both_orders() {
-    let case = passing_station();
-    // On time, both reach the passing station in minute 6 and wait in minute 7 for the other's block.
-    assert_eq!(arrivals(&case, &[0, 0]), [Some(11), Some(11)]);
-    // Train 0 is late: train 1 waits from minute 7 until train 0 has come in at 9 and its block has gone after 10.
-    assert_eq!(arrivals(&case, &[1, 0]), [Some(13), Some(14)]);
-    // Train 1 is late: the same the other way round.
-    assert_eq!(arrivals(&case, &[0, 1]), [Some(14), Some(13)]);
-    assert_eq!(arrivals(&case, &[1, 1]), [Some(14), Some(14)]);
+    // On time, both reach the passing station in minute 6 and leave it in minute 7, for which the other's block must have its end by then; they drive 3
+    // minutes. If one is late, it comes in at 9 and leaves at 10; the other waits from minute 7 to the end, 9 + safety time, of the block that it has left
+    // behind it. If both are late, they leave in minute 10, or at the end of the other's block.
+    let by_safety = [
+        (0, [[10, 10], [12, 13], [13, 12], [13, 13]]),
+        (1, [[10, 10], [13, 13], [13, 13], [13, 13]]),
+        (2, [[11, 11], [14, 13], [13, 14], [14, 14]]),
+        (3, [[12, 12], [15, 13], [13, 15], [15, 15]]),
+    ];
+    for (safety, minutes) in by_safety {
+        let case = passing_station(safety);
+        for (choice, minutes) in [[0, 0], [0, 1], [1, 0], [1, 1]].iter().zip(minutes) {
+            assert_eq!(arrivals(&case, choice), minutes.map(Some));
+        }
+    }
+}
+
+#[test]
+fn two_trains_that_meet_at_a_passing_station_are_listed() {
+    // The choices (0,0), (0,1), (1,0) and (1,1) weigh 4,200, 1,800, 2,800 and 1,200.
+    let printed = "total 10000
+0 10 4200
+0 13 5800
+0 - 0
+1 10 4200
+1 13 5800
+1 - 0
+";
+    assert_eq!(listed(&passing_station(1), &[]), Ok(printed.to_string()));
     let printed = "total 10000
 0 11 4200
 0 13 2800
@@ -57,25 +78,26 @@ fn two_trains_meet_at_a_passing_station_in_both_orders() {
 1 14 4000
 1 - 0
 ";
-    assert_eq!(listed(&case, &[]), Ok(printed.to_string()));
+    assert_eq!(listed(&passing_station(2), &[]), Ok(printed.to_string()));
 }
 
 #[test]
 fn pieces_inside_the_partners_entries_are_held_in_cutting_order() {
-    // In minute 7 train 1 asks for track 1 and meets on track 0 the block of train 0 on time and then train 0 late; and train 0 likewise.
+    // In minute 7 train 1 asks for track 1 and meets on track 0 the block of train 0 on time, whose end is 8, and then train 0 late; and train 0 likewise.
+    let case = passing_station(2);
     let after_7 = [
         "0,s1,stands,7,1.1",
         "0,s1,stands,7,1.2",
-        "0,t0,blocks,7,1.3",
+        "0,t0,blocks,8,1.3",
         "1,s1,stands,7,1.1",
         "1,s1,stands,7,2.1",
-        "1,t3,blocks,7,3.1",
+        "1,t3,blocks,8,3.1",
         "0,t0,stands,9,2.3",
-        "0,s0,blocks,7,2.3",
+        "0,s0,blocks,8,2.3",
         "1,t3,stands,9,3.2",
-        "1,s2,blocks,7,3.2",
+        "1,s2,blocks,8,3.2",
     ];
-    assert_eq!(rows(&passing_station(), 7), after_7);
+    assert_eq!(rows(&case, 7), after_7);
     // In minute 8 the blocks are gone: the pieces without a late train enter, the others are held again.
     let after_8 = [
         "0,s1,stands,7,1.2",
@@ -83,11 +105,11 @@ fn pieces_inside_the_partners_entries_are_held_in_cutting_order() {
         "0,t0,stands,9,2.3",
         "1,t3,stands,9,3.2",
         "1,t1,stands,11,1.1",
-        "1,s1,blocks,9,1.1",
+        "1,s1,blocks,10,1.1",
         "0,t2,stands,11,1.1",
-        "0,s1,blocks,9,1.1",
+        "0,s1,blocks,10,1.1",
     ];
-    assert_eq!(rows(&passing_station(), 8), after_8);
+    assert_eq!(rows(&case, 8), after_8);
 }
 
 #[test]
@@ -102,7 +124,6 @@ fn two_trains_that_wait_for_each_other_never_arrive() {
         "1,s1,stands,3,1.1",
         "0,gone,stands,5,1.2",
         "1,gone,stands,12,1.2",
-        "1,s0,blocks,12,1.2",
     ];
     assert_eq!(rows(&case, 12), last);
     // Without the couple they pass each other: train 1 leaves in minute 3, and train 0 comes in at 4.
@@ -113,8 +134,9 @@ fn two_trains_that_wait_for_each_other_never_arrive() {
 #[test]
 fn two_trains_in_one_direction_fill_a_coupled_track_for_two() {
     let case = two_abreast();
-    // Train 2 enters in minute 6, when the block of train 0 has gone; train 3 in minute 12, when that of train 2 has.
-    let minutes = [Some(4), Some(5), Some(10), Some(16)];
+    // Train 2 enters in minute 5, the end of the block that train 0 has left at 4, and comes in at 9; train 3 enters in minute 10, the end of the block of
+    // train 2.
+    let minutes = [Some(4), Some(5), Some(9), Some(14)];
     assert_eq!(arrivals(&case, &[0; 4]), minutes);
     let plan = Plan::read(&case, &[]).expect("a sound case");
     let after = run(&plan, &[0; 4]).after;
@@ -125,31 +147,34 @@ fn two_trains_in_one_direction_fill_a_coupled_track_for_two() {
     let (there, back) = (Place::Track(0), Place::Track(1));
     let stations = [Place::Station(0), Place::Station(1)];
     assert_eq!(places(3), [there, there, stations[0], stations[1]]);
-    assert_eq!(
-        places(5),
-        [Place::Gone, Place::Gone, stations[0], stations[1]]
-    );
-    assert_eq!(places(6)[2..], [there, stations[1]]);
+    assert_eq!(places(4), [Place::Gone, there, stations[0], stations[1]]);
+    assert_eq!(places(5), [Place::Gone, Place::Gone, there, stations[1]]);
     let block = Block {
         train: 2,
         place: there,
-        end: 11,
+        end: 10,
     };
-    assert!(after[11].blocks.contains(&block));
-    assert_eq!(places(11)[3], stations[1]);
-    assert_eq!(places(12)[3], back);
+    assert!(after[9].blocks.contains(&block));
+    assert_eq!(places(9)[3], stations[1]);
+    assert!(!after[10].blocks.contains(&block));
+    assert_eq!(places(10)[3], back);
 }
 
 #[test]
-fn a_block_keeps_the_partner_through_its_last_minute() {
-    // Train 0 drives from minute 0 to 3; train 1 may drive back in the minute after its block.
+fn a_block_keeps_the_partner_up_to_its_end_and_none_keeps_it_with_a_safety_time_of_0() {
+    // Train 0 drives from minute 0 to 3, so that its block has the end 3 + safety time; in that minute and not before train 1 drives back, for 3 minutes.
     let trains = [[(0, 0, 0), (1, 3, 3)], [(1, 1, 1), (0, 4, 4)]];
-    for safety in 0..4 {
+    for safety in 0..4u8 {
         for capacity in [1, 2, 255] {
             for coupled in [(0, 1), (1, 0)] {
                 let case = two_stations(safety, capacity, &trains, &[(0, 100)], coupled);
-                let back = 3 + u32::from(safety) + 1 + 3;
-                assert_eq!(arrivals(&case, &[0, 0]), [Some(3), Some(back)]);
+                let enters = 3 + u32::from(safety);
+                assert_eq!(arrivals(&case, &[0, 0]), [Some(3), Some(enters + 3)]);
+                let waits = "1,s1,stands,1,1.1".to_string();
+                let drives = format!("1,t1,stands,{},1.1", enters + 3);
+                assert!(rows(&case, enters - 1).contains(&waits));
+                assert!(!rows(&case, enters).contains(&waits));
+                assert!(rows(&case, enters).contains(&drives));
             }
         }
     }
@@ -157,10 +182,11 @@ fn a_block_keeps_the_partner_through_its_last_minute() {
 
 #[test]
 fn of_two_that_ask_in_one_minute_the_lower_track_is_entered_whatever_the_train() {
-    // Both stand ready in minute 0. Track 0 is visited before track 1, so that train 0 goes back after the block of train 1.
+    // Both stand ready in minute 0. Track 0 is visited before track 1, so that train 0 goes back in minute 3, in which train 1 leaves the rails without a
+    // block.
     let trains = [[(1, 0, 0), (0, 3, 3)], [(0, 0, 0), (1, 3, 3)]];
     for coupled in [(0, 1), (1, 0)] {
         let case = two_stations(0, 1, &trains, &[(0, 100)], coupled);
-        assert_eq!(arrivals(&case, &[0, 0]), [Some(7), Some(3)]);
+        assert_eq!(arrivals(&case, &[0, 0]), [Some(6), Some(3)]);
     }
 }

@@ -72,7 +72,13 @@ fn the_choices_are_the_product_of_the_tables_and_the_last_trains_delay_changes_f
 #[test]
 fn the_shift_example_runs_four_choices_at_every_stop() {
     let case = shift_example();
-    let by = [(0, 6, 6_000), (0, 9, 4_000), (1, 11, 3_600), (1, 14, 6_400)];
+    let by = [
+        (0, 6, 6_000),
+        (0, 9, 4_000),
+        (1, 11, 3_600),
+        (1, 13, 2_400),
+        (1, 14, 2_400 + 1_600),
+    ];
     for stop in 0..=20 {
         let so_far: Arrivals = by
             .into_iter()
@@ -84,7 +90,7 @@ fn the_shift_example_runs_four_choices_at_every_stop() {
 
 #[test]
 fn trains_that_meet_at_the_passing_station_arrive_as_each_choice_by_itself() {
-    // (0,0) brings both in at 11; (0,1) train 0 at 14 and train 1 at 13; (1,0) train 0 at 13 and train 1 at 14; (1,1) both at 14.
+    // With a safety time of 2, (0,0) brings both in at 11; (0,1) train 0 at 14 and train 1 at 13; (1,0) train 0 at 13 and train 1 at 14; (1,1) both at 14.
     let arrivals = vec![
         (0, 11, 4_200),
         (0, 13, 2_800),
@@ -93,13 +99,17 @@ fn trains_that_meet_at_the_passing_station_arrive_as_each_choice_by_itself() {
         (1, 13, 1_800),
         (1, 14, 2_800 + 1_200),
     ];
-    assert_eq!(plainly(&passing_station(), 20), (Ok(4), arrivals));
+    assert_eq!(plainly(&passing_station(2), 20), (Ok(4), arrivals));
+    // With one of 1, (0,0) brings both in at 10, and every other choice both at 13.
+    let of_both = [(10, 4_200), (13, 1_800 + 2_800 + 1_200)];
+    let arrivals = [0, 1].map(|train| of_both.map(|(minute, weight)| (train, minute, weight)));
+    assert_eq!(plainly(&passing_station(1), 20), (Ok(4), arrivals.concat()));
 }
 
 #[test]
 fn it_answers_where_the_joint_run_has_no_room() {
     let mut case = shift_example();
-    for room in [8, 4, 3, 1] {
+    for room in [6, 4, 3, 1] {
         case[6..8].copy_from_slice(&[0, room]);
         let (mut rows, mut weights) = (vec![None; ROWS], vec![0; WEIGHTS]);
         let refused = run(&case, &[], 20, &mut rows, &mut weights);

@@ -29,7 +29,7 @@ fn one_choice_adds_its_weight_to_the_minute_of_each_arrival() {
     let alone = [
         (3_600, 6, 11),
         (2_400, 6, 14),
-        (2_400, 9, 14),
+        (2_400, 9, 13),
         (1_600, 9, 14),
     ];
     for (number, (weight, of_0, of_1)) in alone.into_iter().enumerate() {
@@ -138,12 +138,14 @@ fn past_the_last_choice_there_is_nothing_to_run() {
 #[test]
 fn a_sum_that_would_pass_2_to_the_64_less_1_becomes_that_and_stays() {
     let most = u64::MAX;
-    // Train 0 adds 6,000 in minute 6 and 4,000 in minute 9, and train 1 adds 3,600 in minute 11 and 6,400 in minute 14, the last in three steps.
+    // Train 0 adds 6,000 in minute 6 and 4,000 in minute 9, and train 1 adds 3,600 in minute 11, 2,400 in minute 13 and 4,000 in minute 14, the last in two
+    // steps.
     let lent = [
         (at(0, 6), most - 6_000, most),
         (at(0, 9), most - 3_999, most),
         (at(1, 11), most, most),
-        (at(1, 14), most - 6_401, most - 1),
+        (at(1, 13), most - 2_401, most - 1),
+        (at(1, 14), most - 4_001, most - 1),
         (at(0, 5), most - 1, most - 1),
         (at(6, 719), most, most),
     ];
@@ -157,6 +159,7 @@ fn a_sum_that_would_pass_2_to_the_64_less_1_becomes_that_and_stays() {
     }
     for _ in 0..2 {
         assert_eq!(part_of_shift(0, 4, &mut weights), Ok(4));
+        assert_eq!(weights[at(1, 13)], most);
         assert_eq!(weights[at(1, 14)], most);
         assert_eq!(weights[at(0, 6)], most);
     }

@@ -28,22 +28,20 @@ fn shift_example_after_minutes_6_7_and_8() {
         "0,s0,blocks,7,2.3",
     ];
     assert_eq!(rows(&shift_example(), 6), after_6);
+    // Both blocks go at the start of minute 7, so that the held piece of train 1 enters station 0.
     let after_7 = [
-        "1,out,stands,5,2.1",
         "1,out,stands,8,3.2",
         "1,s0,stands,8,1.1",
-        "0,t0,blocks,7,1.3",
         "0,t0,stands,9,2.3",
-        "0,s0,blocks,7,2.3",
+        "1,s0,stands,10,2.1",
         "0,gone,stands,7,1.3",
         "0,s1,blocks,8,1.3",
     ];
     assert_eq!(rows(&shift_example(), 7), after_7);
     let after_8 = [
         "0,t0,stands,9,2.3",
+        "1,s0,stands,10,2.1",
         "0,gone,stands,7,1.3",
-        "0,s1,blocks,8,1.3",
-        "1,s0,stands,11,2.1",
         "1,s0,stands,11,3.2",
         "1,t0,stands,11,1.1",
         "1,s0,blocks,9,1.1",
@@ -52,39 +50,63 @@ fn shift_example_after_minutes_6_7_and_8() {
 }
 
 #[test]
-fn shift_example_after_minutes_11_15_and_20() {
-    let after_11 = [
+fn shift_example_after_minutes_10_11_and_14() {
+    // Train 0, late, has left the track in minute 9. The block goes at the start of minute 10, and train 1 enters.
+    let after_10 = [
         "0,gone,stands,7,1.3",
+        "1,s0,stands,11,3.2",
+        "1,t0,stands,11,1.1",
+        "1,t0,stands,13,2.1",
+        "1,s0,blocks,11,2.1",
         "0,gone,stands,10,2.3",
         "0,s1,blocks,11,2.3",
+    ];
+    assert_eq!(rows(&shift_example(), 10), after_10);
+    let after_11 = [
+        "0,gone,stands,7,1.3",
+        "1,t0,stands,13,2.1",
+        "0,gone,stands,10,2.3",
         "1,s1,stands,12,1.1",
         "1,t0,blocks,12,1.1",
-        "1,t0,stands,14,2.1",
-        "1,s0,blocks,12,2.1",
         "1,t0,stands,14,3.2",
         "1,s0,blocks,12,3.2",
     ];
     assert_eq!(rows(&shift_example(), 11), after_11);
+    let after_14 = [
+        "0,gone,stands,7,1.3",
+        "0,gone,stands,10,2.3",
+        "1,gone,stands,12,1.1",
+        "1,s1,stands,15,3.2",
+        "1,t0,blocks,15,3.2",
+        "1,gone,stands,14,2.1",
+        "1,s1,blocks,15,2.1",
+    ];
+    assert_eq!(rows(&shift_example(), 14), after_14);
+}
+
+#[test]
+fn shift_example_after_minutes_15_16_and_20() {
     let after_15 = [
         "0,gone,stands,7,1.3",
         "0,gone,stands,10,2.3",
         "1,gone,stands,12,1.1",
-        "1,t0,blocks,15,2.1",
-        "1,t0,blocks,15,3.2",
-        "1,gone,stands,15,2.1",
-        "1,s1,blocks,16,2.1",
+        "1,gone,stands,14,2.1",
         "1,gone,stands,15,3.2",
         "1,s1,blocks,16,3.2",
     ];
     assert_eq!(rows(&shift_example(), 15), after_15);
-    let after_20 = [
-        "0,gone,stands,7,1.3",
-        "0,gone,stands,10,2.3",
-        "1,gone,stands,12,1.1",
-        "1,gone,stands,15,2.1",
-        "1,gone,stands,15,3.2",
+    for minute in [16, 20] {
+        assert_eq!(rows(&shift_example(), minute), after_15[..5]);
+    }
+}
+
+#[test]
+fn the_shift_examples_list_has_at_most_7_entries() {
+    let lengths: Vec<usize> = (0..=20).map(|m| rows(&shift_example(), m).len()).collect();
+    let by_hand = [
+        4, 4, 4, 5, 4, 5, 7, 6, 6, 6, 7, 7, 6, 6, 7, 6, 5, 5, 5, 5, 5,
     ];
-    assert_eq!(rows(&shift_example(), 20), after_20);
+    assert_eq!(lengths, by_hand);
 }
 
 #[test]

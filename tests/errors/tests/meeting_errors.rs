@@ -41,12 +41,12 @@ fn prints(case: &[u8], train: usize, lines: &[&str]) {
     assert_eq!(lines_of(&text, train), lines);
 }
 
-/// What train 1 does: train 0 on time blocks the track through minute 5, and train 1 goes back from 6 to 9; train 0 late blocks it through 7, and train 1 late
-/// goes back from 8 to 11; but if only train 0 is late, train 1 goes first, from 1 to 4.
-const BACK: [&str; 4] = ["1 4 2400", "1 9 6000", "1 11 1600", "1 - 0"];
+/// What train 1 does: train 0 on time leaves a block with the end 5, and train 1 goes back from 5 to 8; train 0 late leaves one with the end 7, and train 1
+/// late goes back from 7 to 10; but if only train 0 is late, train 1 goes first, from 1 to 4.
+const BACK: [&str; 4] = ["1 4 2400", "1 8 6000", "1 10 1600", "1 - 0"];
 
-/// And train 0: on time it goes first; late, it does so if train 1 is late too, and otherwise waits for the block of train 1 through 6 and drives from 7 to 10.
-const THERE: [&str; 4] = ["0 3 6000", "0 5 1600", "0 10 2400", "0 - 0"];
+/// And train 0: on time it goes first; late, it does so if train 1 is late too, and otherwise waits to the end, 6, of the block of train 1 and drives to 9.
+const THERE: [&str; 4] = ["0 3 6000", "0 5 1600", "0 9 2400", "0 - 0"];
 
 #[test]
 fn either_train_waits_for_the_other_whatever_the_capacity_and_the_couple() {

@@ -48,7 +48,14 @@ fn shift() -> Files {
 
 #[test]
 fn without_an_error_four_choices_arrive_as_in_the_listing() {
-    let arrivals = vec![(0, 6, 6_000), (0, 9, 4_000), (1, 11, 3_600), (1, 14, 6_400)];
+    // The choices (0,0), (0,3), (3,0) and (3,3) weigh 3,600, 2,400, 2,400 and 1,600, and bring train 1 in at 11, 14, 13 and 14.
+    let arrivals = vec![
+        (0, 6, 6_000),
+        (0, 9, 4_000),
+        (1, 11, 3_600),
+        (1, 13, 2_400),
+        (1, 14, 4_000),
+    ];
     assert_eq!(told(&shift(), 20), (Ok(4), arrivals));
 }
 
@@ -56,7 +63,13 @@ fn without_an_error_four_choices_arrive_as_in_the_listing() {
 fn the_last_choice_left_out_takes_its_weight_from_both_trains() {
     let (told, same) = told_with!(last_choice, shift(), 20);
     // The choice (3,3) weighs 1,600, and brings train 0 in at 9 and train 1 at 14.
-    let arrivals = vec![(0, 6, 6_000), (0, 9, 2_400), (1, 11, 3_600), (1, 14, 4_800)];
+    let arrivals = vec![
+        (0, 6, 6_000),
+        (0, 9, 2_400),
+        (1, 11, 3_600),
+        (1, 13, 2_400),
+        (1, 14, 2_400),
+    ];
     assert_eq!(told, (Ok(3), arrivals));
     assert!(!same);
 }
@@ -68,7 +81,8 @@ fn a_weight_added_in_the_minute_after_is_a_minute_late() {
         (0, 7, 6_000),
         (0, 10, 4_000),
         (1, 12, 3_600),
-        (1, 15, 6_400),
+        (1, 14, 2_400),
+        (1, 15, 4_000),
     ];
     assert_eq!(told, (Ok(4), arrivals));
     assert!(!same);

@@ -27,10 +27,10 @@ pub fn two_stations(
     fields.concat()
 }
 
-/// Two trains that meet at the passing station 1 between two single tracks: whichever is late lets the other wait there.
-pub fn passing_station() -> Vec<u8> {
+/// Two trains that meet at the passing station 1 between two single tracks, with this safety time: whichever is late lets the other wait there.
+pub fn passing_station(safety: u8) -> Vec<u8> {
     let fields = [
-        head(20, 1, 1_024),
+        head(20, safety, 1_024),
         [station(1), station(2), station(1)].concat(),
         [track(0, 1, 1), track(1, 0, 1)].concat(),
         [track(1, 2, 1), track(2, 1, 1)].concat(),

@@ -74,7 +74,7 @@ fn entry(kind: Kind, minute: u32) -> Entry {
 }
 
 #[test]
-fn a_sweep_is_told_by_the_blocks_whose_end_is_before_the_minute() {
+fn a_sweep_is_told_by_the_blocks_whose_end_has_come() {
     let (stands, blocks) = (
         |minute| entry(Kind::Stands, minute),
         |minute| entry(Kind::Blocks, minute),
@@ -87,19 +87,19 @@ fn a_sweep_is_told_by_the_blocks_whose_end_is_before_the_minute() {
         blocks(5),
         blocks(4),
     ];
-    let seen = sweep(&list, 5).expect("blocks go");
+    let seen = sweep(&list, 4).expect("blocks go");
     let goes = vec![false, true, true, false, false, true];
     assert_eq!(seen, Sweep { goes, next: 1 });
     let told = (seen.gone(), seen.groups(), seen.before(), seen.moved());
     assert_eq!(told, (3, 2, 1, 2));
     assert!(seen.takes_last());
-    assert_eq!(sweep(&list, 4), None);
-    let all = sweep(&list[1..], 6).expect("blocks go");
+    assert_eq!(sweep(&list, 3), None);
+    let all = sweep(&list[1..], 5).expect("blocks go");
     assert_eq!(
         (all.gone(), all.groups(), all.before(), all.moved()),
         (4, 2, 0, 1)
     );
-    assert!(!sweep(&list[..5], 5).expect("blocks go").takes_last());
-    let last = sweep(&list[3..], 5).expect("a block goes");
+    assert!(!sweep(&list[..5], 4).expect("blocks go").takes_last());
+    let last = sweep(&list[3..], 4).expect("a block goes");
     assert_eq!((last.gone(), last.before(), last.moved()), (1, 2, 0));
 }

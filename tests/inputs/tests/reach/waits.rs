@@ -154,13 +154,13 @@ fn waits_are_told_by_the_entries_of_the_partner() {
     let seen = seen_of(&each_waits());
     assert_eq!((seen.by_standing, seen.by_block), (10, 0));
     assert!(seen.each_other && seen.by_capacity.iter().all(|held| *held == 0));
-    // Train 2 waits for room from minute 2 to 5; train 3 for trains in minutes 3, 4, 7, 8 and 9, and for blocks in 5, 6, 10 and 11.
+    // Train 2 waits for room from minute 2 to 4; train 3 for trains in minutes 3, 4, 6, 7 and 8, and for blocks, as the first that it meets, in 5 and 9.
     let seen = seen_of(&two_abreast());
-    assert_eq!((seen.by_standing, seen.by_block), (5, 4));
-    assert_eq!(seen.by_capacity[..4], [0, 0, 4, 0]);
+    assert_eq!((seen.by_standing, seen.by_block), (5, 2));
+    assert_eq!(seen.by_capacity[..4], [0, 0, 3, 0]);
     assert!(!seen.each_other && seen.part_entered == 0);
     // In minute 7 each train is held by the other's block and by the other itself.
-    let seen = seen_of(&passing_station());
+    let seen = seen_of(&passing_station(2));
     assert_eq!((seen.at_two_entries, seen.part_at_both), (2, 0));
     assert!(!seen.each_other);
 }
