@@ -1,5 +1,5 @@
 //! Copies the second program's library once for each edit of edits/, makes the edit in the copy, and writes a module for each copy.
-//! An edit has a comment, `file:`, `old:`, which must stand in that file once, and `new:` to the end.
+//! An edit has a comment and, for each place that it changes, `file:`, `old:`, which must stand in that file once, and `new:` to the next place or to the end.
 
 use std::fs;
 use std::path::{Path, PathBuf};
@@ -29,28 +29,32 @@ fn folder(variable: &str) -> PathBuf {
 fn copy(source: &Path, out: &Path, edit: &Path) -> String {
     let name = edit.file_stem().expect("a name").to_string_lossy();
     let text = fs::read_to_string(edit).expect("an edit");
-    let (file, old, new) = parts(&text).expect("file:, old: and new:");
+    let changes: Vec<Change> = text.split("\nfile: ").skip(1).map(change).collect();
     let into = out.join(&*name);
     fs::create_dir_all(&into).expect("a folder for the copy");
     let library = fs::read_to_string(source.join("lib.rs")).expect("the library");
-    let mut modules = String::new();
+    let (mut modules, mut made) = (String::new(), 0);
     for module in library.lines().filter(|line| line.starts_with("pub mod ")) {
         let of = format!("{}.rs", &module[8..module.len() - 1]);
         let mut code = fs::read_to_string(source.join(&of)).expect("a module");
-        if of == file {
+        for (_, old, new) in changes.iter().filter(|(file, _, _)| *file == of) {
             assert_eq!(code.matches(old).count(), 1, "{name}: {old}");
             code = code.replace(old, new);
+            made += 1;
         }
         fs::write(into.join(&of), code.replace("crate::", "super::")).expect("a copy");
         modules += &format!("#[path = {:?}]\n{module}\n", into.join(&of));
     }
+    assert!(made > 0 && made == changes.len(), "{name}: {made} changes");
     format!("pub mod {name} {{\n{modules}}}\n")
 }
 
-/// The file, the old text and the new text of an edit.
-fn parts(edit: &str) -> Option<(&str, &str, &str)> {
-    let (_, rest) = edit.split_once("\nfile: ")?;
-    let (file, rest) = rest.split_once("\nold: ")?;
-    let (old, new) = rest.split_once("\nnew: ")?;
-    Some((file, old, new.trim_end()))
+/// A place that is changed: the file, the old text and the new text.
+type Change<'a> = (&'a str, &'a str, &'a str);
+
+/// A change, from what stands behind its `file:`.
+fn change(text: &str) -> Change<'_> {
+    let (file, rest) = text.split_once("\nold: ").expect("old:");
+    let (old, new) = rest.split_once("\nnew: ").expect("new:");
+    (file, old, new.trim_end())
 }
