@@ -94,8 +94,8 @@ pub(crate) fn draw_case(chance: &mut Chance, size: Size, line: &Line) -> Files {
     let departures = plans.iter().flatten().map(|stop| stop.2);
     let spare = chance.between(1, 14) * size.stretch;
     let last_minute = departures.max().unwrap_or(0) + spare as u16;
-    let safety = [0, 0, 1, 1, 2, 2, 3][chance.below(7)] * size.stretch.min(10);
-    let mut case = head(last_minute, safety as u8, draw_room(chance, size));
+    let safety = draw_safety(chance, size);
+    let mut case = head(last_minute, safety, draw_room(chance, size));
     for _ in &line.stations {
         case.extend(station(draw_capacity(chance)));
     }
@@ -115,7 +115,7 @@ pub(crate) fn draw_case(chance: &mut Chance, size: Size, line: &Line) -> Files {
     Files { case, book }
 }
 
-/// Draws a sound case whose trains crowd into one station: with this capacity, and more trains than that.
+/// Draws a sound case whose trains crowd into one station: with this capacity, and more trains than that. The safety time is 0, 1 or 2.
 pub fn crowded(chance: &mut Chance, capacity: usize) -> Files {
     let count = chance.between(capacity + 1, 7);
     let mut case = head(40, chance.below(3) as u8, 1_024);
@@ -182,6 +182,12 @@ fn draw_capacities(chance: &mut Chance, line: &Line) -> Vec<u8> {
         capacities[usize::from(*other)] = capacities[usize::from(*one)];
     }
     capacities
+}
+
+/// A safety time: two in seven are 0, with which no block is left, two are 1 and three are more; where all times are long, none is 1.
+fn draw_safety(chance: &mut Chance, size: Size) -> u8 {
+    let kinds = [0, 0, 1, 1, 2, 2, 3];
+    (kinds[chance.below(kinds.len())] * size.stretch.min(10)) as u8
 }
 
 /// The full room, or a small one that the list may pass.

@@ -7,6 +7,7 @@ pub mod damage;
 pub mod drawn;
 pub mod faults;
 pub mod faulty;
+pub mod freed;
 pub mod generator;
 pub mod made;
 pub mod meeting;

@@ -51,7 +51,7 @@ fn draw_branch(chance: &mut Chance, steps: usize, coupled: usize) -> Line {
     }
 }
 
-/// Draws a sound case whose trains cross on one coupled track of this capacity: more trains there than that, and some back.
+/// Draws a sound case whose trains cross on one coupled track of this capacity: more trains there than that, and some back. The safety time is 0, 1 or 2.
 pub fn crossing(chance: &mut Chance, capacity: usize) -> Files {
     let there = chance.between(capacity + 1, 6);
     let count = chance.between(there + 1, 7);
