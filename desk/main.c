@@ -7,8 +7,8 @@
 #include "refusal.h"
 #include "said.h"
 
-#define VERSION "1.4"
-#define RULES "document 01, change requests 1, 2, 4 and 10 of document 02"
+#define VERSION "1.5"
+#define RULES "document 01, change requests 1, 2, 3, 4 and 10 of document 02"
 
 /* The toolchain that proved the engine; who builds says it. */
 #ifndef TOOLCHAIN

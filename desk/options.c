@@ -24,7 +24,8 @@ static const struct command commands[] = {
      TAKES_BOOK | TAKES_NAMES | TAKES_TRAIN | TAKES_LIMIT, command_figures},
     {"run", "print the list of entries after a minute, and what has arrived by then",
      "Without --stop it runs to the last minute. Each row is a train that waits or stands somewhere, or a place that\n"
-     "it still blocks, in the choices that are named at the row's end; trains that are not named may have any delay.",
+     "it still blocks, in the choices that are named at the row's end; trains that are not named may have any delay.\n"
+     "A place that is blocked until minute 17 is free again in minute 17.",
      TAKES_BOOK | TAKES_NAMES | TAKES_STOP, command_run},
     {"single", "run one choice of delays, and print when each train arrives",
      "The choice is one delay for each train, in the order of the case: --delays by minutes, or --choice by index.",

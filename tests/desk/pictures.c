@@ -340,13 +340,14 @@ static void shift_arrivals(void)
     take_study(shift_example, sizeof shift_example);
     draw_both("the shift example's arrivals are well formed", "the shift example's shift is well formed");
     expect(shows("<title>minute 6: 60.00 of 100</title>") && shows("<title>minute 9: 40.00 of 100</title>"), "the first train's bars");
-    expect(shows("<title>minute 11: 36.00 of 100</title>") && shows("<title>minute 14: 64.00 of 100</title>"), "the second train's bars");
-    expect(times("<title>minute ") == 4, "no further bar");
-    expect(shows(">60.00</text>") && shows(">40.00</text>") && shows(">36.00</text>") && shows(">64.00</text>"), "each bar's label");
+    expect(shows("<title>minute 11: 36.00 of 100</title>") && shows("<title>minute 13: 24.00 of 100</title>") &&
+               shows("<title>minute 14: 40.00 of 100</title>"), "the second train's bars");
+    expect(times("<title>minute ") == 5, "no further bar");
+    expect(shows(">60.00</text>") && times(">40.00</text>") == 2 && shows(">36.00</text>") && shows(">24.00</text>"), "each bar's label");
     expect(shows(">plan 6</text>") && shows(">plan 11</text>"), "the plan");
     expect(times(">not arrived 0.00</text>") == 2, "what has not arrived, 0 too");
     expect(shows(">T0 to S1, planned in minute 6</text>") && shows(">T1 to S1, planned in minute 11</text>"), "the headings");
-    expect(shows(">50 of 100 by minute 6, 80 by 9, 95 by 9</text>") && shows(">50 of 100 by minute 14, 80 by 14, 95 by 14</text>"), "50, 80 and 95");
+    expect(shows(">50 of 100 by minute 6, 80 by 9, 95 by 9</text>") && shows(">50 of 100 by minute 13, 80 by 14, 95 by 14</text>"), "50, 80 and 95");
     expect(times("<circle") == 7, "six rings, and the legend's");
     expect(shows("<title>shift.case</title>") && shows(">shift.case</text>"), "the file's name is the title");
     expect(draw_one(0, second_picture) && strcmp(picture, second_picture) == 0, "the same case gives the same bytes");
@@ -365,7 +366,7 @@ static int about(long a, long b)
     return a - b <= 1 && b - a <= 1;
 }
 
-/* Scales: 0 to 60 for the first train, 0 to 80 for the second. */
+/* Scales: 0 to 60 for the first train, 0 to 40 for the second. */
 static void shift_heights(void)
 {
     long full, top;
@@ -374,12 +375,13 @@ static void shift_heights(void)
     expect(draws_well(0), "the shift example's arrivals, to be measured");
     full = bar_height("<title>minute 6: ");
     expect(full > 1000 && about(bar_height("<title>minute 9: "), full * 40 / 60), "the first train's bars are as high as their weights say");
-    expect(about(bar_height("<title>minute 11: "), full * 36 / 80) && about(bar_height("<title>minute 14: "), full * 64 / 80), "so are the second's");
+    expect(about(bar_height("<title>minute 11: "), full * 36 / 40) && about(bar_height("<title>minute 13: "), full * 24 / 40) &&
+               about(bar_height("<title>minute 14: "), full), "so are the second's");
     expect(attribute(strstr(strstr(picture, "<title>minute 6: "), "<rect"), " y=\"", &top) && sprintf(end, "V%ldH", top) > 0 && times(end) == 1,
            "the bar of 60 to the scale of 60 is as high as the curve at its end");
 }
 
-/* The first area is that of the waiting band, a train high: 2400 of 10000 wait from minute 5 to 7. */
+/* The first area is that of the waiting band, a train high: 2400 of 10000 wait in minutes 5 and 6. */
 static void shift_areas(void)
 {
     long left, foot, from, top, until, back;
@@ -388,7 +390,7 @@ static void shift_areas(void)
         area = strstr(area + 1, "<path d=\"M");
     expect(area != NULL && sscanf(area, "<path d=\"M%ld %ldH%ldV%ldH%ldV%ldH", &left, &foot, &from, &top, &until, &back) == 6, "an area of those that wait");
     expect(area != NULL && foot - top == 1500 * 24 / 100 && back == foot, "it is as high as their weight says");
-    expect(area != NULL && (from - left) * 8 - (until - left) * 5 <= 8 && (until - left) * 5 - (from - left) * 8 <= 8, "it begins and ends where they do");
+    expect(area != NULL && (from - left) * 7 - (until - left) * 5 <= 7 && (until - left) * 5 - (from - left) * 7 <= 7, "it begins and ends where they do");
 }
 
 static void shift_presence(void)
@@ -400,10 +402,35 @@ static void shift_presence(void)
     expect(shows(">waiting outside</text>") && shows(">1 train</text>"), "those that wait outside");
     expect(times(" as planned</text>") == 2 && shows(">T0</text>") && shows(">T1</text>"), "the trains in the legend and at their lines");
     expect(presence.standing[station][2] == 6000 && presence.standing[station][1] == 0, "the first train stands where it is planned if it is not late");
-    expect(presence.waiting[5] == 2400 && presence.waiting[8] == 0, "the second waits while the first stands there late");
-    expect(presence.standing[track][3] == 6000 && presence.blocked[station][3] == 6000 && presence.blocked[station][4] == 6000, "a block lasts its time");
+    expect(presence.waiting[5] == 2400 && presence.waiting[6] == 2400 && presence.waiting[7] == 0, "the second waits while the first stands there late");
+    expect(presence.standing[track][3] == 6000 && presence.blocked[station][3] == 6000 && presence.blocked[station][4] == 0, "a block lasts its time");
     expect(presence.gone[20] == 20000 && presence.coming[0] == 20000, "all come, and all go");
     shift_areas();
+}
+
+/* How much is blocked, over all places and minutes. */
+static uint64_t blocked_weight(void)
+{
+    uint64_t sum = 0;
+    for (unsigned i = 0; i < ELEMENTS; i++)
+        for (unsigned t = 0; t <= study.level.head.last; t++)
+            sum += presence.blocked[i][t];
+    return sum;
+}
+
+/* The first train, on time, leaves its first station in minute 3. It is drawn as blocked from then on for the safety time; if that is 0, nothing is. */
+static void safety_times(void)
+{
+    for (unsigned safety = 0; safety <= 3; safety++) {
+        unsigned blocked = 0;
+        take_study(shift_example, sizeof shift_example);
+        study.level.head.safety = safety;
+        expect(changed() == 0 && draws_well(1), "the shift example with another safety time");
+        for (unsigned t = 3; t < 6 && presence.blocked[0][t] == 6000; t++)
+            blocked++;
+        expect(blocked == safety && presence.blocked[0][2] == 0 && presence.blocked[0][3 + safety] != 6000, "a place is drawn as blocked for the safety time");
+        expect((blocked_weight() == 0) == (safety == 0), "with safety time 0 nothing is blocked");
+    }
 }
 
 static void titles(void)
@@ -577,6 +604,7 @@ int main(int count, char **words)
     shift_arrivals();
     shift_heights();
     shift_presence();
+    safety_times();
     titles();
     names();
     windows();
