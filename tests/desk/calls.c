@@ -11,7 +11,7 @@ static const uint8_t shift[] = {
     1, 0, 5, 0, 20, 1, 4, 0, 2, 0, 1, 1, 2, 0, 1, 1, 3, 0, 3, 0, 1, 1,
     4, 0, 12, 1, 1, 0, 0, 2, 0, 3, 1, 0, 6, 0, 7, 4, 0, 12, 1, 1, 0, 0, 5, 0, 8, 1, 0, 11, 0, 12, 5, 0, 5, 1, 0, 60, 3, 40};
 
-static const char printed[] = "total 10000\n0 6 6000\n0 9 4000\n0 - 0\n1 11 3600\n1 14 6400\n1 - 0\n";
+static const char printed[] = "total 10000\n0 6 6000\n0 9 4000\n0 - 0\n1 11 3600\n1 13 2400\n1 14 4000\n1 - 0\n";
 
 static uint8_t rows[LAMPREYSONG_ROWS], weights[LAMPREYSONG_WEIGHTS], text[LAMPREYSONG_TEXT];
 
@@ -83,11 +83,11 @@ static void plain(void)
 {
     struct lampreysong_answer a = lampreysong_plain(shift, sizeof shift, NULL, 0, 20, weights, sizeof weights);
     expect(a.refusal == 0 && a.value == 4, "the plain engine runs four choices");
-    expect(weight(0, 6) == 6000 && weight(0, 9) == 4000 && weight(1, 11) == 3600 && weight(1, 14) == 6400, "the weights of all choices");
+    expect(weight(0, 6) == 6000 && weight(0, 9) == 4000 && weight(1, 11) == 3600 && weight(1, 13) == 2400 && weight(1, 14) == 4000, "the weights of all choices");
     a = lampreysong_plain_part(shift, sizeof shift, NULL, 0, 20, 1, 2, weights, sizeof weights);
-    expect(a.refusal == 0 && a.value == 2 && weight(0, 6) == 8400 && weight(0, 9) == 6400 && weight(1, 14) == 11200, "a part is added");
+    expect(a.refusal == 0 && a.value == 2 && weight(0, 6) == 8400 && weight(0, 9) == 6400 && weight(1, 13) == 4800 && weight(1, 14) == 6400, "a part is added");
     a = lampreysong_plain_part(shift, sizeof shift, NULL, 0, 20, 3, UINT64_MAX, weights, sizeof weights);
-    expect(a.refusal == 0 && a.value == 1 && weight(0, 9) == 8000 && weight(1, 14) == 12800, "a part that reaches past the last choice");
+    expect(a.refusal == 0 && a.value == 1 && weight(0, 9) == 8000 && weight(1, 13) == 4800 && weight(1, 14) == 8000, "a part that reaches past the last choice");
     a = lampreysong_plain_part(shift, sizeof shift, NULL, 0, 20, UINT64_MAX, UINT64_MAX, weights, sizeof weights);
     expect(a.refusal == 0 && a.value == 0 && weight(0, 9) == 8000, "a part past the last choice");
     a = lampreysong_plain(shift, sizeof shift, NULL, 0, 20, weights, sizeof weights - 1);

@@ -365,11 +365,11 @@ static void try_room(void)
     static struct lent lent;
     struct lampreysong_answer a;
     set_text(&study);
-    study.level.head.room = 8;
+    study.level.head.room = 6;
     put_case(&study.level, &study.case_bytes);
     a = ask_run(&study, 20, &lent);
     say(&study, (struct refusal){a.refusal, a.file, a.place}, NULL);
-    expect_said("12, room 8", (struct refusal){a.refusal, a.file, a.place}, 12, little_room_said);
+    expect_said("12, room 6", (struct refusal){a.refusal, a.file, a.place}, 12, little_room_said);
     fill_level(&study);
     a = ask_run(&study, MOST_MINUTE, &lent);
     say(&study, (struct refusal){a.refusal, a.file, a.place}, NULL);
@@ -564,12 +564,12 @@ static void try_minutes(void)
     expect(minute_by(&study, &lent, 0, 100) == 9, "100 of 100 of the first train");
     expect(minute_by(&study, &lent, 1, 36) == 11, "36 of 100 of the second train");
     expect(weight_by(&lent, 0, 5) == 0 && weight_by(&lent, 0, 6) == 6000 && weight_by(&lent, 0, 719) == 10000, "weight by a minute");
-    expect(weight_in(&lent, 1, 14) == 6400 && weight_in(&lent, 1, 13) == 0, "weight in a minute");
+    expect(weight_in(&lent, 1, 14) == 4000 && weight_in(&lent, 1, 13) == 2400 && weight_in(&lent, 1, 12) == 0, "weight in a minute");
     study.level.head.last = 13;
     put_case(&study.level, &study.case_bytes);
     expect(ask_listing(&study, &lent).refusal == 0, "a window of 13 minutes is answered");
-    expect(minute_by(&study, &lent, 1, 36) == 11, "36 of 100 arrive by minute 13");
-    expect(minute_by(&study, &lent, 1, 37) == -1, "37 of 100 don't");
+    expect(minute_by(&study, &lent, 1, 60) == 13, "60 of 100 arrive by minute 13");
+    expect(minute_by(&study, &lent, 1, 61) == -1, "61 of 100 don't");
     memset(&lent, 0, sizeof lent);
     expect(minute_by(&study, &lent, 0, 1) == -1 && minute_by(&study, &lent, 1, 100) == -1, "where nothing has arrived there is no minute");
 }

@@ -595,8 +595,8 @@ static const char *const station_in_book_said =
 
 static const char *const little_room_said =
     "  where  early.txt\n"
-    "  wrong  The run needs more than 8 rows, which is the room of this case.\n"
-    "  mend   Write `room 9`; it can be up to 1024.\n"
+    "  wrong  The run needs more than 6 rows, which is the room of this case.\n"
+    "  mend   Write `room 7`; it can be up to 1024.\n"
     "         Fewer delays in the tables or fewer trains make the list shorter.\n"
     "         `lampreysong plain` runs every choice by itself, and needs no room.\n";
 
