@@ -76,7 +76,7 @@ fn single_runs() -> Checks {
     vec![
         ("P1", arrives(&whole, [0, 0], 11)),
         ("P2", arrives(&whole, [0, 1], 14)),
-        ("P3", arrives(&whole, [1, 0], 14)),
+        ("P3", arrives(&whole, [1, 0], 13)),
         ("P4", arrives(&whole, [1, 1], 14)),
         ("none by T", arrives(&short, [0, 1], NONE)),
         ("P1 where T is 13", arrives(&short, [0, 0], 11)),
@@ -102,7 +102,8 @@ fn runs() -> Checks {
     let unused = &early.rows.part()[5 * ROW_BYTES..];
     let no_weight = early.weights.holds(&[]);
     let end = Linked.run(&whole, 20, &mut late);
-    let weights = [(0, 6), (0, 9), (1, 11), (1, 14)].map(|(k, t)| weight(&late, k, t));
+    let arrivals = [(0, 6), (0, 9), (1, 11), (1, 13), (1, 14)];
+    let weights = arrivals.map(|(k, t)| weight(&late, k, t));
     let ends = (0..7).flat_map(|k| (0..720).map(move |t| (k, t)));
     let sum: u64 = ends.map(|(k, t)| weight(&late, k, t)).sum();
     vec![
@@ -121,7 +122,10 @@ fn runs() -> Checks {
             "the run to the end",
             end.refusal == 0 && late.text.untouched(),
         ),
-        ("the weights", weights == [6_000, 4_000, 3_600, 6_400]),
+        (
+            "the weights",
+            weights == [6_000, 4_000, 3_600, 2_400, 4_000],
+        ),
         ("no other weights", sum == 20_000),
     ]
 }
@@ -147,11 +151,11 @@ fn listings() -> Checks {
     in_book.book = in_book.case.split_off(52);
     vec![
         ("the listing", listed(&shift(|_| {})) == Ok(printed.clone())),
-        ("P6: room 9", room(9) == Ok(printed.clone())),
-        ("P7: room 8", room(8) == Err(12)),
+        ("P6: room 7", room(7) == Ok(printed.clone())),
+        ("P7: room 6", room(6) == Err(12)),
         (
             "P8: T = 13",
-            minute(13).map_or(false, |text| ends(&text, b"\n1 - 6400\n")),
+            minute(13).map_or(false, |text| ends(&text, b"\n1 - 4000\n")),
         ),
         ("P9: T = 12", minute(12).is_ok()),
         ("P10: T = 11", minute(11) == Err(9)),
@@ -170,15 +174,18 @@ fn figures() -> Checks {
     let bits = |doubles: [f64; 4]| doubles.map(f64::to_bits);
     let (whole, short) = (shift(|_| {}), shift(|case| case[4] = 13));
     let delayed = shift(|case| case[56] = 1);
-    let late = [3 * 6_400, 10_000];
+    let late = [2 * 2_400 + 3 * 4_000, 10_000];
     let share = (SHARE, bits([0.36, 0.36, 0.64, 0.0]), late);
+    let more = (SHARE, bits([0.6, 0.6, 0.4, 0.0]), late);
     let always = (ALWAYS, bits([0.0, 1.0, 0.0, 0.0]), late);
-    let missing = (SHARE, bits([0.36, 0.36, 0.0, 0.64]), [0, 3_600]);
+    let missing_late = [2 * 2_400, 6_000];
+    let missing = (SHARE, bits([0.36, 0.36, 0.24, 0.4]), missing_late);
     let never_late = [6_000 + 3 * 4_000, 10_000];
     let never = (NEVER, bits([0.0, 0.0, 1.0, 0.0]), never_late);
     vec![
         ("a share", of_train(&whole, 1, 0) == share),
-        ("a share, two minutes", of_train(&whole, 1, 2) == share),
+        ("a share, a minute", of_train(&whole, 1, 1) == share),
+        ("a share, two minutes", of_train(&whole, 1, 2) == more),
         ("always", of_train(&whole, 1, 3) == always),
         (
             "always, the highest limit",

@@ -48,7 +48,7 @@ fn cases() -> Vec<Case> {
     let figures = Call::Figures { train, limit };
     let (empty, small) = (
         || shift(|case| case.clear()),
-        || shift(|case| case[6..8].copy_from_slice(&[0, 8])),
+        || shift(|case| case[6..8].copy_from_slice(&[0, 6])),
     );
     let whole = || shift(|_| {});
     let plain = |stop| Call::Plain { stop };

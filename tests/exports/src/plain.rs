@@ -20,9 +20,12 @@ pub fn the_plain_engine(tally: &mut Tally) {
     }
 }
 
+/// The trains and minutes in which they can arrive.
+const ARRIVALS: [(usize, usize); 5] = [(0, 6), (0, 9), (1, 11), (1, 13), (1, 14)];
+
 /// The weights of both trains in the minutes in which they can arrive, if all others are 0.
-fn arrived(lent: &Lent) -> Option<[u64; 4]> {
-    let weights = [(0, 6), (0, 9), (1, 11), (1, 14)].map(|(k, t)| weight(lent, k, t));
+fn arrived(lent: &Lent) -> Option<[u64; 5]> {
+    let weights = ARRIVALS.map(|(k, t)| weight(lent, k, t));
     let all = (0..7).flat_map(|k| (0..720).map(move |t| (k, t)));
     let others = all.filter(|(k, t)| weight(lent, *k, *t) > 0).count();
     let these = weights.iter().filter(|weight| **weight > 0).count();
@@ -41,19 +44,19 @@ fn plain_runs() -> Checks {
         arrived(&lent).filter(|_| answer == four && alone)
     };
     let (whole, small) = (shift(|_| {}), shift(|case| (case[6], case[7]) = (0, 3)));
-    let all = Some([6_000, 4_000, 3_600, 6_400]);
+    let all = Some([6_000, 4_000, 3_600, 2_400, 4_000]);
     vec![
         (
             "plain: nothing by minute 5",
-            plain(&whole, 5) == Some([0; 4]),
+            plain(&whole, 5) == Some([0; 5]),
         ),
         (
             "plain: by minute 6",
-            plain(&whole, 6) == Some([6_000, 0, 0, 0]),
+            plain(&whole, 6) == Some([6_000, 0, 0, 0, 0]),
         ),
         (
             "plain: by minute 13",
-            plain(&whole, 13) == Some([6_000, 4_000, 3_600, 0]),
+            plain(&whole, 13) == Some([6_000, 4_000, 3_600, 2_400, 0]),
         ),
         ("plain: by minute 14", plain(&whole, 14) == all),
         ("plain: to the end", plain(&whole, 20) == all),
@@ -72,17 +75,13 @@ fn parts() -> Checks {
         };
         arrived(&lent).filter(|_| answer == run)
     };
-    let mut twice = Lent::exact().with_weights(Before::All(0));
-    let (first, count) = (1, 2);
-    for _ in 0..2 {
-        Linked.part(&shift(|_| {}), Part { stop, first, count }, &mut twice);
-    }
-    let (none, all) = (Some([0; 4]), Some([6_000, 4_000, 3_600, 6_400]));
-    let last = Some([0, 1_600, 0, 1_600]);
+    let one = |choice, weights| part(choice, 1, 1) == Some(weights);
+    let (none, all) = (Some([0; 5]), Some([6_000, 4_000, 3_600, 2_400, 4_000]));
+    let last = Some([0, 1_600, 0, 0, 1_600]);
     vec![
-        ("P1 as a part", part(0, 1, 1) == Some([3_600, 0, 3_600, 0])),
-        ("P2 as a part", part(1, 1, 1) == Some([2_400, 0, 0, 2_400])),
-        ("P3 as a part", part(2, 1, 1) == Some([0, 2_400, 0, 2_400])),
+        ("P1 as a part", one(0, [3_600, 0, 3_600, 0, 0])),
+        ("P2 as a part", one(1, [2_400, 0, 0, 0, 2_400])),
+        ("P3 as a part", one(2, [0, 2_400, 0, 2_400, 0])),
         ("P4 as a part", part(3, 1, 1) == last),
         ("all choices as a part", part(0, 4, 4) == all),
         ("a part that overruns", part(3, 2, 1) == last),
@@ -98,9 +97,19 @@ fn parts() -> Checks {
         ),
         (
             "a part twice",
-            arrived(&twice) == Some([4_800, 4_800, 0, 9_600]),
+            twice() == Some([4_800, 4_800, 0, 4_800, 4_800]),
         ),
     ]
+}
+
+/// The weights of the second and the third choice, added twice.
+fn twice() -> Option<[u64; 5]> {
+    let (stop, first, count) = (20, 1, 2);
+    let mut lent = Lent::exact().with_weights(Before::All(0));
+    for _ in 0..2 {
+        Linked.part(&shift(|_| {}), Part { stop, first, count }, &mut lent);
+    }
+    arrived(&lent)
 }
 
 /// Sums that would pass 2^64 − 1.
@@ -109,28 +118,28 @@ fn sums() -> Checks {
     let added_to = |before: u64| {
         let mut lent = Lent::exact().with_weights(Before::All(before));
         Linked.part(&shift(|_| {}), every_choice(20), &mut lent);
-        let weights = [(0, 6), (0, 9), (1, 11), (1, 14)].map(|(k, t)| weight(&lent, k, t));
+        let weights = ARRIVALS.map(|(k, t)| weight(&lent, k, t));
         let others = [(0, 5), (0, 7), (2, 6), (6, 719)].map(|(k, t)| weight(&lent, k, t));
         (others == [before; 4]).then_some(weights)
     };
-    let just_fit = [most - 400, most - 2_400, most - 2_800, most];
-    let one_passes = [most, most - 2_000, most - 2_400, most];
+    let just_fit = [6_000, 4_000, 3_600, 2_400, 4_000].map(|weight| most - 6_000 + weight);
+    let one_passes = [5_999, 4_000, 3_600, 2_400, 4_000].map(|weight| most - 5_999 + weight);
     vec![
         (
             "sums that just fit",
-            added_to(most - 6_400) == Some(just_fit),
+            added_to(most - 6_000) == Some(just_fit),
         ),
         (
             "sums of which one would pass 2^64 − 1",
-            added_to(most - 6_000) == Some(one_passes),
+            added_to(most - 5_999) == Some(one_passes),
         ),
         (
             "sums that would all pass 2^64 − 1",
-            added_to(most - 1) == Some([most; 4]),
+            added_to(most - 1) == Some([most; 5]),
         ),
         (
             "sums that have stopped stay",
-            added_to(most) == Some([most; 4]),
+            added_to(most) == Some([most; 5]),
         ),
     ]
 }

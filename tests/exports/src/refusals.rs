@@ -198,7 +198,7 @@ fn all_refuse(files: &Files, (refusal, file, place): Refused) -> bool {
 fn of_calls() -> Vec<(&'static str, bool)> {
     let (whole, small) = (
         shift(|_| {}),
-        shift(|case| case[6..8].copy_from_slice(&[0, 8])),
+        shift(|case| case[6..8].copy_from_slice(&[0, 6])),
     );
     let broken = shift(|case| case.truncate(59));
     let single = |choice: &[u8], train| refusal(Linked.single(&whole, choice, train));
