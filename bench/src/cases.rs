@@ -1,5 +1,6 @@
 //! The cases that are timed: those of a folder, each with the book beside it.
 
+use crate::exported::Desk;
 use second::plan::Plan;
 use std::path::{Path, PathBuf};
 
@@ -15,7 +16,21 @@ impl Files {
     pub fn plan(&self) -> Plan {
         Plan::read(&self.case, &self.book).expect("a sound case")
     }
+
+    /// The case itself, or with a safety time that is one more, so that each block is a minute longer.
+    pub fn given(&self, longer: bool) -> Files {
+        let mut case = self.case.clone();
+        case[SAFETY] += u8::from(longer);
+        Files {
+            name: self.name.clone(),
+            case,
+            book: self.book.clone(),
+        }
+    }
 }
+
+/// Where the safety time stands in a case.
+const SAFETY: usize = 5;
 
 /// The cases of the folder by name, all or those whose names begin with one of the words.
 pub fn cases(folder: &str, words: &[String]) -> Vec<Files> {
@@ -25,6 +40,23 @@ pub fn cases(folder: &str, words: &[String]) -> Vec<Files> {
     paths.sort();
     let all = paths.iter().map(|path| read(path)).collect();
     meant(all, words)
+}
+
+/// Those that the exported run answers over the whole window, each itself or with longer blocks. The others are said, and are not timed.
+pub fn answered(mut all: Vec<Files>, longer: bool) -> Vec<Files> {
+    let mut desk = Desk::new();
+    all.retain(|files| {
+        let files = files.given(longer);
+        let answer = desk.run(&files.case, &files.book, files.plan().head.last_minute);
+        if let Err(number) = answer {
+            println!(
+                "{} is not timed: the run is refused {number}.\n",
+                files.name
+            );
+        }
+        answer.is_ok()
+    });
+    all
 }
 
 /// Those whose names begin with one of the words; without a word, all.

@@ -3,9 +3,11 @@
 //! - `bench second FOLDER [CASE..]`: beside the second program's joint run and its enumeration of all choices;
 //! - `bench plain FOLDER [CASE..]`: the plain engine beside the second program's and its enumeration, a choice;
 //! - `bench beside THIS OTHER FOLDER [CASE..]`: two builds of the library in turns, each as a shared object;
+//! - `bench longer THIS OTHER FOLDER [CASE..]`: the same where a block lasted a minute longer in the other build, as it did before request 3 of 02;
 //! - `bench copies THIS NOTING FOLDER [CASE..]`: and what it copies, which the library NOTING notes (bench/copies.c).
 //!
-//! FOLDER has the cases; with words, only those are taken whose names begin with one of them. All is timed in one process.
+//! FOLDER has the cases; with words, only those are taken whose names begin with one of them. All is timed in one process. A case that the run refuses is said and left
+//! out; the plain engine answers it too.
 
 mod beside;
 mod cases;
@@ -20,19 +22,21 @@ mod series;
 mod tables;
 mod waves;
 
-use cases::{cases, meant};
+use cases::{answered, cases, meant};
 
 fn main() {
     let words: Vec<String> = std::env::args().skip(1).collect();
     match words.first().map(String::as_str) {
         Some("second") if words.len() > 1 => second(&words[1], &words[2..]),
         Some("plain") if words.len() > 1 => plain(&words[1], &words[2..]),
-        Some("beside") if words.len() > 3 => beside(&words[1..3], &words[3], &words[4..]),
+        Some("beside") if words.len() > 3 => beside(&words[1..3], &words[3], &words[4..], false),
+        Some("longer") if words.len() > 3 => beside(&words[1..3], &words[3], &words[4..], true),
         Some("copies") if words.len() > 3 => copies(&words[1..3], &words[3], &words[4..]),
         _ => {
             eprintln!("use: bench second FOLDER [CASE..]");
             eprintln!("     bench plain FOLDER [CASE..]");
             eprintln!("     bench beside THIS OTHER FOLDER [CASE..]");
+            eprintln!("     bench longer THIS OTHER FOLDER [CASE..]");
             eprintln!("     bench copies THIS NOTING FOLDER [CASE..]");
             std::process::exit(2);
         }
@@ -41,7 +45,7 @@ fn main() {
 
 /// The exported run beside the second program, and on series of cases in which one thing grows.
 fn second(folder: &str, words: &[String]) {
-    let measured = measured::measured(cases(folder, words));
+    let measured = measured::measured(answered(cases(folder, words), false));
     tables::print_ratios(&measured);
     tables::print_costs(&measured);
     tables::print_series();
@@ -57,20 +61,19 @@ fn plain(folder: &str, words: &[String]) {
 }
 
 /// This build beside another one, on the cases and on those with waves of blocks.
-fn beside(libraries: &[String], folder: &str, words: &[String]) {
-    let mut both = beside::Both::open(&libraries[0], &libraries[1]);
-    both.print_cases(&cases(folder, words));
-    both.print_waves(&meant(waves::waves(), words));
+fn beside(libraries: &[String], folder: &str, words: &[String], longer: bool) {
+    let mut both = beside::Both::open(&libraries[0], &libraries[1], longer);
+    both.print_cases(&answered(cases(folder, words), longer));
+    both.print_waves(&answered(meant(waves::waves(), words), longer));
 }
 
 /// What a run copies, on the cases and on those with waves of blocks.
 fn copies(libraries: &[String], folder: &str, words: &[String]) {
+    let mut timed = answered(cases(folder, words), false);
+    timed.extend(answered(meant(waves::waves(), words), false));
     let mut copies = copies::Copies::open(&libraries[0], &libraries[1]);
     copies.print_head();
-    for files in cases(folder, words) {
-        copies.print(&files);
-    }
-    for files in meant(waves::waves(), words) {
+    for files in timed {
         copies.print(&files);
     }
 }
