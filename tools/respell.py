@@ -5,7 +5,7 @@ usage: python3 tools/respell.py TABLE      at the top of the repository, after t
        the kit's script then turns the files by that table: snake.py --table TABLE crates
 
 A definition, a field and a constructor are words joined by '_'. In a lemma a dash stays where it joins the names of two definitions, as in
-'inside-packed', and every other one becomes '_'. Where a new name is taken, the old dashes stay.
+'inside-packed', and every other one becomes '_'. A name that the library has too stays.
 """
 import collections
 import functools
@@ -157,7 +157,7 @@ def main():
     for w, new in list(table.items()):
         if new in outside or new in tokens and new not in words | lemmas and new not in functions():
             print(f"taken: {w} -> {new}, {tokens[new]} times, {'outside' if new in outside else ''}")
-    table = {w: new for w, new in table.items() if w != new}
+    table = {w: new for w, new in table.items() if w != new and w not in outside}
     with open(sys.argv[1], "w", encoding="utf-8") as f:
         for w in sorted(table):
             f.write(f"{w}\t{table[w]}\n")

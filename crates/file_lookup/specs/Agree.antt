@@ -4,7 +4,7 @@ use Rattle.std.specs.Prelude.{◌≡◌, Bool, ℕ, zero, suc, ◌+◌, ◌≤�
 use Rattle.std.proofs.Math.Path.{refl, ap}
 use Rattle.std.proofs.Common.{sym, ◌∙◌, subst, arith}
 use Rattle.std.proofs.Math.Bool.{true, false, cond}
-use mathlib.Core.List.{List, [], ◌∷◌, ◌++◌, map, append_nil}
+use mathlib.Core.List.{List, [], ◌∷◌, ◌++◌, map, append-nil}
 use Rattle.std.proofs.Math.Dec.{eqb}
 use borrow.Author.Tests.{lt-ltb, le-ltb, le-leb, lt-leb, eqb-true, ne_eqb}
 use Rattle.rules.specs.Lists.{one, each, keep}
@@ -84,7 +84,7 @@ module _ (f : File) (l : List ℕ) (t : ℕ) where
           let p = eqb-true (byte l i) 5 e in
           let n = table-length (word l (i + 1)) (ap (λ (k : ℕ). bad_length k (word l (i + 1))) (sym p) ∙ s.possible) in
           let q : byte (body_at l i) 0 ≡ byte l (i + 3) = body-byte l i 0 s.inside (omega arith) ∙ ap (byte l) (omega arith) in
-          append_nil (one (eqb (byte (body_at l i) 0) t) (table_of (body_at l i))) ∙ ap (λ (k : ℕ). one (eqb k t) (table_of (body_at l i))) q
+          append-nil (one (eqb (byte (body_at l i) 0) t) (table_of (body_at l i))) ∙ ap (λ (k : ℕ). one (eqb k t) (table_of (body_at l i))) q
       go false e = refl
 
   pub by_type : (d : Contents) → read f l ≡ answer d → keep (λ (e : Table). eqb e.type t) d.tables ≡ map (λ i. table_of (body_at l i)) (keep (is_table l t) (places l))

@@ -4,7 +4,7 @@ use Rattle.std.specs.Prelude.{◌≡◌, Bool, true, false, cond, not, ◌&&◌,
 use Rattle.std.proofs.Math.Path.{refl, ap, ap₂, sym}
 use Rattle.std.proofs.Common.{◌∙◌, not-suc-le-zero, add-zero, zero-add, mul-zero, mul-suc, get_or-drop, leb-true}
 use Rattle.std.proofs.lemmas.Bool.{false≢true, eqb-false}
-use mathlib.Core.List.{List, [], ◌∷◌, ◌++◌, map, append_nil}
+use mathlib.Core.List.{List, [], ◌∷◌, ◌++◌, map, append-nil}
 use Prim.Native.Nat.{ℕ, zero, suc, ◌+◌, ◌-◌, ◌*◌, ◌/◌, ◌≤◌, ◌<◌}
 use native.Mathlib.Omega.{arith}
 use Rattle.std.proofs.Math.ListN.{length, length-drop, length-take}
@@ -165,7 +165,7 @@ module _ (w : List ℕ) (c : Contents) (at : ℕ) (d : Field case c at (drop at 
   z = size-here w at
 
   abbrev none : {A : Type 0} (a : List A) → a ++ [] ≡ a
-  none a = append_nil a
+  none a = append-nil a
 
   -- no couple stands before a field of another kind
   uncoupled : c.rank ≤ 5 → c.couples ++ [] ≡ []

@@ -3,7 +3,7 @@
 use Rattle.std.specs.Prelude.{◌≡◌, Bool, false, not, ℕ, ◌+◌, ◌≤◌, length, drop}
 use Rattle.std.proofs.Math.Path.{refl, ap, sym}
 use Rattle.std.proofs.Common.{◌∙◌, arith, length-drop}
-use mathlib.Core.List.{List, [], ◌++◌, append_nil, append_assoc}
+use mathlib.Core.List.{List, [], ◌++◌, append-nil, append_assoc}
 use Rattle.std.proofs.Math.Dec.{eqb}
 use Rattle.rules.specs.Lists.{one, each}
 use Rattle.rules.specs.Refusals.{verdict}
@@ -53,7 +53,7 @@ module _ (f : File) (l : List ℕ) where
     gathered d h e =
         let first = walked_start l _ (ap (λ (x : List A). x ++ each (λ j. one (test j) (make j)) (places l)) (sym e)) in
         let q = (read_along f l Gathering gathering_more d first h).0.same in
-        sym ((rw (whole-none l (length l) (omega arith)) at q) ∙ append_nil (of d))
+        sym ((rw (whole-none l (length l) (omega arith)) at q) ∙ append-nil (of d))
 
   module _ (d : Contents) (h : read f l ≡ answer d) where
     pub trains_decoded : d.trains ≡ each (λ i. one (eqb (byte l i) 4) (train_of i (body_at l i))) (places l)

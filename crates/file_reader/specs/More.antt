@@ -4,7 +4,7 @@ use Rattle.std.specs.Prelude.{◌≡◌, Bool, ◌&&◌, ◌||◌, length, take,
 use Rattle.std.proofs.Math.Path.{refl, ap, sym}
 use Rattle.std.proofs.Common.{◌∙◌, length-append}
 use Rattle.std.proofs.Math.Bool.{true, false, cond, or-false}
-use mathlib.Core.List.{List, [], ◌∷◌, ◌++◌, append_nil}
+use mathlib.Core.List.{List, [], ◌∷◌, ◌++◌, append-nil}
 use Prim.Native.Nat.{ℕ, ◌+◌, ◌-◌, ◌*◌, ◌≤◌, ◌<◌}
 use Rattle.std.proofs.Math.Numerals.{add-one}
 use native.Mathlib.Omega.{arith}
@@ -33,11 +33,11 @@ use Rattle.file_reader.specs.Holds.{is_book, InCase, OfFile, Holds}
 
 count-more : {A : Type 0} (b : Bool) (x : A) (l : List A) (n : ℕ) → length l ≡ n → length (l ++ one b x) ≡ cond b (n + 1) n
 count-more true x l n h = length-append l (x ∷ []) ∙ ap (λ (k : ℕ). k + 1) h
-count-more false x l n h = ap length (append_nil l) ∙ h
+count-more false x l n h = ap length (append-nil l) ∙ h
 
 any-more : {A : Type 0} (t : A → Bool) (b : Bool) (x : A) (l : List A) → any t (l ++ one b x) ≡ cond b (any t l || t x) (any t l)
 any-more t true x l = any_append t l (x ∷ []) ∙ ap (λ (y : Bool). any t l || y) (or-false (t x))
-any-more t false x l = ap (any t) (append_nil l)
+any-more t false x l = ap (any t) (append-nil l)
 
 any-empty : {A : Type 0} (t : A → Bool) (l : List A) → length l ≡ 0 → any t l ≡ false
 any-empty t [] h = refl
@@ -153,7 +153,7 @@ module _ (l : List ℕ) (s : Seen) (c : Contents) (h : Holds case l s c) (w : Wi
       f.placed f.possible
     where
       old : j < s.stations → byte l (11 + 4 * j) ≡ get_or (c.stations ++ []) j 0
-      old k = i.stations_stand j k ∙ sym (ap (λ (m : List ℕ). get_or m j 0) (append_nil c.stations))
+      old k = i.stations_stand j k ∙ sym (ap (λ (m : List ℕ). get_or m j 0) (append-nil c.stations))
 
   tracks-more : (j : ℕ) → j < (grown tag).tracks → track_of (drop (base (grown tag) + 6 * j + 3) l) ≡ track_at (more c s.at (kind_of tag) b) j
   unfolding after counted more kind_of track_of track_at
@@ -175,11 +175,11 @@ module _ (l : List ℕ) (s : Seen) (c : Contents) (h : Holds case l s c) (w : Wi
       f.placed f.possible
     where
       old : j < s.tracks → track_of (drop (base s + 6 * j + 3) l) ≡ get_or (c.tracks ++ []) j no_track
-      old k = i.tracks_stand j k ∙ sym (ap (λ (m : List Track). get_or m j no_track) (append_nil c.tracks))
+      old k = i.tracks_stand j k ∙ sym (ap (λ (m : List Track). get_or m j no_track) (append-nil c.tracks))
 
   none-lead : (k : ℕ) (from to : ℕ) → s.tracks ≡ 0 → joined l k s.tracks from to ≡ any (leads from to) (c.tracks ++ [])
   unfolding joined
-  none-lead k from to e = rw e (any_none _) ∙ sym (ap (any (leads from to)) (append_nil c.tracks) ∙ any-empty (leads from to) c.tracks (h.tracks ∙ e))
+  none-lead k from to e = rw e (any_none _) ∙ sym (ap (any (leads from to)) (append-nil c.tracks) ∙ any-empty (leads from to) c.tracks (h.tracks ∙ e))
 
   one-leads : (from to : ℕ) → n ≡ 3 → s.at ≡ base s + 6 * s.tracks → joined l (base s) (s.tracks + 1) from to ≡ any (leads from to) (c.tracks ++ (track_of b ∷ []))
   unfolding joined ends leads track_of
@@ -214,12 +214,12 @@ module _ (l : List ℕ) (s : Seen) (c : Contents) (h : Holds case l s c) (w : Wi
       f.placed f.possible
     where
       old : joined l (base s) s.tracks from to ≡ any (leads from to) (c.tracks ++ [])
-      old = i.tracks_lead from to ∙ sym (ap (any (leads from to)) (append_nil c.tracks))
+      old = i.tracks_lead from to ∙ sym (ap (any (leads from to)) (append-nil c.tracks))
 
   none-taken : (first t : ℕ) → s.couples ≡ 0 → taken l first s.couples t ≡ has (coupled (c.couples ++ [])) t
   unfolding taken
   none-taken first t e =
-      rw e (any_none _) ∙ sym (ap (λ (m : List Couple). has (coupled m) t) (append_nil c.couples) ∙ none-coupled c.couples t (h.couples ∙ e))
+      rw e (any_none _) ∙ sym (ap (λ (m : List Couple). has (coupled m) t) (append-nil c.couples) ∙ none-coupled c.couples t (h.couples ∙ e))
 
   one-taken : (t : ℕ) → n ≡ 2 → taken l (s.at + 3 + n - 5 * (s.couples + 1)) (s.couples + 1) t ≡ has (coupled (c.couples ++ (couple_of b ∷ []))) t
   unfolding taken in_couple coupled couple_of

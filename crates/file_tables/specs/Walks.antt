@@ -1,7 +1,7 @@
 -- The laws by which each function reads a train's stops and the tracks: what one turn of its loop does, and what its end leaves.
 -- Each opens the definition at its next stop or track. Assumes nothing.
 use Rattle.std.proofs.Math.Path.{◌≡◌, refl, ap}
-use Rattle.std.proofs.Common.{sym, ◌∙◌, append_nil, not-suc-le-zero, zero-add, length-append, length-set}
+use Rattle.std.proofs.Common.{sym, ◌∙◌, append-nil, not-suc-le-zero, zero-add, length-append, length-set}
 use Rattle.std.specs.Prelude.{Bool, cond, List, [], ◌∷◌, ◌++◌, length, take, drop, set, replicate, eqb}
 use Rattle.std.proofs.Math.Bool.{true, false}
 use Prim.Native.Nat.{ℕ, zero, suc, ◌+◌, ◌-◌, ◌*◌, ◌≤◌, ◌<◌}
@@ -147,7 +147,7 @@ heads_put l m n a b d e h = rw (e, h)
 -- outside, the first station
 pub row-start : (l m : List ℕ) (v k : ℕ) (q : List ℕ) → l ≡ replicate (length m) 127 → length m ≡ 128 → q ≡ replicate (length (take k (drop 65 l))) v → k ≡ 63
     → take 65 l ++ (q ++ drop k (drop 65 l)) ≡ replicate 65 127 ++ replicate 63 v
-row-start l m v k q e h f g = rw (f, e, h, g) (append_nil _)
+row-start l m v k q e h f g = rw (f, e, h, g) (append-nil _)
 
 -- no stop: nothing is next anywhere
 pub row-none : (cs l m : List ℕ) (n i : ℕ) → l ≡ replicate (length m) 127 → length m ≡ 128 → n ≡ 0 → l ≡ replicate 65 127 ++ replicate 63 (first_station (stops_from cs n i))

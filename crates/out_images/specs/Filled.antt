@@ -1,7 +1,7 @@
 -- Memory that is cleared and then written from its start on is filled with what was written.
 -- Both sides are the list, the zeros after it and the memory past the required part. Assumes nothing.
 use Rattle.std.specs.Prelude.{◌≡◌, List, [], ◌++◌, ℕ, suc, ◌+◌, ◌-◌, ◌≤◌, ◌<◌, length, get_or, drop, set, replicate}
-use Rattle.std.proofs.Common.{sym, ap, ap₂, ◌∙◌, append_assoc, append_nil, arith, add-one, length-append, length-drop, drop-cons, drop_at}
+use Rattle.std.proofs.Common.{sym, ap, ap₂, ◌∙◌, append_assoc, append-nil, arith, add-one, length-append, length-drop, drop-cons, drop_at}
 use Rattle.std.proofs.lemmas.List.{length-replicate, replicate-append-replicate, set_at, drop-append-le}
 use Rattle.std.proofs.lemmas.List.Edits.{sets, sets-eq}
 use Rattle.std.proofs.Math.Seq.{append_snoc}
@@ -56,5 +56,5 @@ filled-whole n image l h k =
     let past : 0 + length image ≡ n = omega arith in
     sets-eq image l 0 (omega arith)
     ∙ ap (λ (i : ℕ). image ++ drop i l) past
-    ∙ ap (λ (z : List ℕ). z ++ drop n l) (sym (append_nil image))
+    ∙ ap (λ (z : List ℕ). z ++ drop n l) (sym (append-nil image))
     ∙ ap (λ (i : ℕ). image ++ replicate {A = ℕ} i 0 ++ drop n l) none

@@ -2,7 +2,7 @@
 -- are needed have it. A quiet piece is held again, uncut; a held piece is quiet for the covers that held it; and covers that come in at the end change
 -- nothing. Each is shown by induction on the covers still to meet. Assumes nothing.
 use Rattle.std.specs.Prelude.{◌≡◌, refl, Bool, true, false, List, [], ◌∷◌, ◌++◌, ℕ, zero, suc, ◌+◌, ◌-◌, ◌≤◌, ◌<◌, length, leb, ltb}
-use Rattle.std.proofs.Common.{ap, ap₂, sym, ◌∙◌, subst, append_nil, arith, leb-true, leb-false, le-leb, le-ltb}
+use Rattle.std.proofs.Common.{ap, ap₂, sym, ◌∙◌, subst, append-nil, arith, leb-true, leb-false, le-leb, le-ltb}
 use Rattle.std.proofs.lemmas.Bool.{false≢true, lt-leb}
 use Rattle.std.specs.Int.Bits.{bit_and, and_self}
 use Rattle.rules.specs.Lists.{each}
@@ -45,7 +45,7 @@ quiet-held cap c (suc r) p (m ∷ es) f e (inside h k) =
     ∙ ap (λ (x : ℕ). turn false false (full_of 8 x) (carried cap es) c p x) h
     ∙ ap (λ (b : Bool). turn false false b (carried cap es) c p p) f
     ∙ ap (λ (l : List ℕ). carried cap es (suc c) p ++ each (carried cap es c) l) (ap (outs 8 0 p) none ∙ outs-nothing 8 0 p)
-    ∙ append_nil (carried cap es (suc c) p)
+    ∙ append-nil (carried cap es (suc c) p)
     ∙ quiet-held cap (suc c) r p es f (omega arith) k
 
 -- ---- covers that come in at the end

@@ -1,7 +1,7 @@
 -- Laws of rows as words, and of what is written from a place on: what one call writes after another is what both write together.
 -- A write past the end changes nothing, so no law asks whether there is room. Assumes nothing.
 use Rattle.std.specs.Prelude.{◌≡◌, refl, Bool, true, false, not, cond, List, [], ◌∷◌, ◌++◌, map, ℕ, zero, suc, ◌+◌, ◌-◌, ◌*◌, ◌/◌, ◌%◌, ◌≤◌, ◌<◌, eqb, length, take, drop, get_or, set}
-use Rattle.std.proofs.Common.{ap, sym, ◌∙◌, subst, append_nil, append_assoc, arith, eq-eqb, ne_eqb, take-append-drop, take-suc, take-take, take-suc-set, length-take-le}
+use Rattle.std.proofs.Common.{ap, sym, ◌∙◌, subst, append-nil, append_assoc, arith, eq-eqb, ne_eqb, take-append-drop, take-suc, take-take, take-suc-set, length-take-le}
 use Rattle.std.proofs.Math.Seq.{slice, length-slice}
 use Rattle.std.proofs.lemmas.List.{take-set-le, drop-append-le}
 use Rattle.rules.specs.Lists.{one, each}
@@ -68,7 +68,7 @@ pub each_more : {A : Type 0} (f : Row → List A) (i : ℕ) (l : List ℕ) → i
 each_more {A} f i l long =
     ap (each f) (rows_in-more i l long)
     ∙ each_append f (rows_in i l) (row_at l i ∷ [])
-    ∙ ap (λ (z : List A). each f (rows_in i l) ++ z) (append_nil (f (row_at l i)))
+    ∙ ap (λ (z : List A). each f (rows_in i l) ++ z) (append-nil (f (row_at l i)))
 
 pub each-taken : {A : Type 0} (f : Row → A) (test : Row → Bool) (i : ℕ) (l : List ℕ) → i * 2 + 2 ≤ length l → test (row_at l i) ≡ true
     → each (λ r. one (test r) (f r)) (rows_in (i + 1) l) ≡ each (λ r. one (test r) (f r)) (rows_in i l) ++ (f (row_at l i) ∷ [])
@@ -79,7 +79,7 @@ pub each_left : {A : Type 0} (f : Row → A) (test : Row → Bool) (i : ℕ) (l 
 each_left {A} f test i l long h =
     each_more (λ r. one (test r) (f r)) i l long
     ∙ ap (λ (b : Bool). each (λ r. one (test r) (f r)) (rows_in i l) ++ one b (f (row_at l i))) h
-    ∙ append_nil (each (λ r. one (test r) (f r)) (rows_in i l))
+    ∙ append-nil (each (λ r. one (test r) (f r)) (rows_in i l))
 
 -- the rows before row i, and those from it on
 pub rows_split : (i n : ℕ) (l : List ℕ) → i ≤ n → n * 2 ≤ length l → rows_in n l ≡ rows_in i l ++ rows_of (slice (i * 2) (n * 2) l)
@@ -102,7 +102,7 @@ pub begins_more : (out L : List ℕ) (w c : ℕ) (b : Bool) → w < length out �
 begins_more out L w c true h k =
     let e : w + 1 ≡ suc w = omega arith in
     ap (λ (n : ℕ). take n (set out w c)) e ∙ take-suc-set out w c h ∙ ap (λ (z : List ℕ). z ++ (c ∷ [])) k
-begins_more out L w c false h k = let e : w + 0 ≡ w = omega arith in ap (λ (n : ℕ). take n (set out w c)) e ∙ take-set-le w out w c (omega arith) ∙ k ∙ sym (append_nil L)
+begins_more out L w c false h k = let e : w + 0 ≡ w = omega arith in ap (λ (n : ℕ). take n (set out w c)) e ∙ take-set-le w out w c (omega arith) ∙ k ∙ sym (append-nil L)
 
 -- ---- parts of a list
 

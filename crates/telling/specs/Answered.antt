@@ -3,7 +3,7 @@
 use Rattle.std.specs.Prelude.{◌≡◌, ℕ, ◌+◌, ◌-◌, ◌^◌, ◌≤◌, ◌<◌, take, drop, replicate}
 use Rattle.std.proofs.Math.Path.{sym, ap}
 use Rattle.std.proofs.Common.{◌∙◌, subst, arith, drop_of_length-le, length-take-le}
-use mathlib.Core.List.{List, [], ◌++◌, append_assoc, append_nil}
+use mathlib.Core.List.{List, [], ◌++◌, append_assoc, append-nil}
 use Rattle.std.proofs.Math.ListN.{length, get_or}
 use Rattle.rules.specs.Files.{Case}
 use Rattle.rules.specs.Turns.{State, Arrival}
@@ -38,7 +38,7 @@ written-part L text h =
     let none : drop 32768 (take 32768 text) ≡ [] = drop_of_length-le (take 32768 text) {i = 32768} (omega arith) in
     ap (λ (i : ℕ). (L ++ replicate {A = ℕ} (i - length L) 0 ++ drop i (take 32768 text)) ++ drop 32768 text) n
     ∙ ap (λ (z : List ℕ). (L ++ replicate {A = ℕ} (32768 - length L) 0 ++ z) ++ drop 32768 text) none
-    ∙ simp (append_assoc, append_nil)
+    ∙ simp (append_assoc, append-nil)
 
 pub printed : (tb ws text : List ℕ) {n m r : ℕ} {a : Answer} (l' : List ℕ) → n ≡ get_or tb 0 0 → m ≡ get_or tb 1 0 → 32768 ≤ length text
     → Prints n m ws (take 32768 text) r l' → a ≡ answered r → Printed tb ws text a (l' ++ drop 32768 text)

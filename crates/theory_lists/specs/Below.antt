@@ -1,6 +1,6 @@
 -- Laws of `span` and `below`: one number more, numbers by blocks, what holds of every number in a row, one number among them, and the numbers below n as a set.
 -- Each is shown by induction on how many there are. Assumes nothing.
-use Rattle.std.proofs.Common.{subst, sym, ap, ap₂, ◌∙◌, append_nil, not-suc-le-zero, le_of_suc-le-suc, add-zero, zero-add, suc-mul, add-one, arith, length-append, eqb-true, eq-eqb, ne_eqb, ltb-true, ltb-false}
+use Rattle.std.proofs.Common.{subst, sym, ap, ap₂, ◌∙◌, append-nil, not-suc-le-zero, le_of_suc-le-suc, add-zero, zero-add, suc-mul, add-one, arith, length-append, eqb-true, eq-eqb, ne_eqb, ltb-true, ltb-false}
 use Rattle.std.specs.Prelude.{◌≡◌, refl, Bool, true, false, ◌||◌, List, [], ◌∷◌, ◌++◌, map, ℕ, zero, suc, ◌+◌, ◌*◌, ◌≤◌, ◌<◌, length, get_or, eqb, ltb}
 use Rattle.std.proofs.Math.Bool.{or-true, or-false}
 use Rattle.std.proofs.lemmas.Bool.{eqb-false}
@@ -49,7 +49,7 @@ module _ {ℓ} {A : Type ℓ} (f : ℕ → List A) where
   -- one number more
   pub each-below-more : (n : ℕ) → each f (below (n + 1)) ≡ each f (below n) ++ f n
   each-below-more n =
-      ap (each f) (below_more n) ∙ each_append f (below n) (n ∷ []) ∙ ap (λ (l : List A). each f (below n) ++ l) (append_nil (f n))
+      ap (each f) (below_more n) ∙ each_append f (below n) (n ∷ []) ∙ ap (λ (l : List A). each f (below n) ++ l) (append-nil (f n))
 
   -- numbers from the next one on
   pub each-span-next : (n k : ℕ) → each f (span n (suc k)) ≡ each (λ i. f (suc i)) (span n k)
@@ -165,7 +165,7 @@ each-below_in f j other n h =
     let a = below_amid n j h in
     ap (each f) a.split
     ∙ each_append f a.front (j ∷ a.back)
-    ∙ ap₂ ◌++◌ (none a.front a.front_others) (ap (λ z. f j ++ z) (none a.back a.back_others) ∙ append_nil (f j))
+    ∙ ap₂ ◌++◌ (none a.front a.front_others) (ap (λ z. f j ++ z) (none a.back a.back_others) ∙ append-nil (f j))
   where
     none : (l : List ℕ) → Every (λ k. k ≡ j → ⊥) l → each f l ≡ []
     none l q = each_every (λ k. k ≡ j → ⊥) f (λ k. []) other l q ∙ each_none l

@@ -1,6 +1,6 @@
 -- Laws of `each` and `map`. Each is shown by induction on the list. Assumes nothing.
 use Rattle.std.specs.Prelude.{◌≡◌, refl, Bool, true, false, cond, List, [], ◌∷◌, ◌++◌, map}
-use Rattle.std.proofs.Common.{sym, ap, ap₂, ◌∙◌, append_assoc, append_nil}
+use Rattle.std.proofs.Common.{sym, ap, ap₂, ◌∙◌, append_assoc, append-nil}
 use Rattle.rules.specs.Lists.{one, each}
 
 -- ---- each
@@ -35,7 +35,7 @@ each_self (a ∷ s) = ap (λ z. a ∷ z) (each_self s)
 
 -- what is made of one item, or of none
 pub each_one {ℓ κ} : {A : Type ℓ} {B : Type κ} (f : A → List B) (c : Bool) (a : A) → each f (one c a) ≡ cond c (f a) []
-each_one f true a = append_nil (f a)
+each_one f true a = append-nil (f a)
 each_one f false a = refl
 
 pub map-append {ℓ κ} : {A : Type ℓ} {B : Type κ} (f : A → B) (s t : List A) → map f (s ++ t) ≡ map f s ++ map f t

@@ -4,7 +4,7 @@ use Rattle.std.specs.Prelude.{◌≡◌, Bool, ℕ, suc, ◌+◌, ◌≤◌, ◌
 use Rattle.std.proofs.Math.Path.{refl, sym, ap, ap₂}
 use Rattle.std.proofs.Common.{◌∙◌, subst, take-append-drop, length-take-le}
 use Rattle.std.proofs.Math.Bool.{true, false, not, cond}
-use mathlib.Core.List.{List, [], ◌∷◌, ◌++◌, map, append_nil, append_assoc}
+use mathlib.Core.List.{List, [], ◌∷◌, ◌++◌, map, append-nil, append_assoc}
 use native.Mathlib.Omega.{arith}
 use Rattle.std.proofs.Math.ListN.{length, take, drop, length-append}
 use Rattle.std.proofs.Math.Seq.{append_snoc, set-append_seam, drop-append-add, drop-append_seam, drop-drop}
@@ -193,11 +193,11 @@ module _ {A : Type 0} (goes : A → Bool) where
     swept_list : after_moves (sweep_moves goes l) l ≡ kept l ++ drop (many l) l
     unfolding sweep_moves
     swept_list =
-        ap (after_moves (moves_from goes first first rest)) (sym (take-append-drop first l) ∙ ap (λ (x : List A). take first l ++ x) (sym (append_nil rest)))
+        ap (after_moves (moves_from goes first first rest)) (sym (take-append-drop first l) ∙ ap (λ (x : List A). take first l ++ x) (sym (append-nil rest)))
         ∙ moves-list rest (take first l) [] [] first first (sym first-long) (omega (arith, first-long))
         ∙ sym (append_assoc (take first l) (kept rest) (drop (many rest) (rest ++ [])))
         ∙ ap₂ (λ (x y : List A). x ++ y) (sym kept-split)
-        (ap (drop (many rest)) (append_nil rest) ∙ drop-drop (many rest) first l ∙ ap (λ (n : ℕ). drop n l) (sym many-split))
+        (ap (drop (many rest)) (append-nil rest) ∙ drop-drop (many rest) first l ∙ ap (λ (n : ℕ). drop n l) (sym many-split))
 
     -- the moves that begin at the first that goes are one sweep
     pub one_sweep : OneSweep goes l (sweep_moves goes l)

@@ -4,7 +4,7 @@ use Rattle.std.specs.Prelude.{◌≡◌, true, false, ◌&&◌, ◌||◌, cond, 
 use Rattle.std.proofs.Math.Path.{refl, sym, ap, ap₂}
 use Rattle.std.proofs.Common.{◌∙◌, le_trans, le_of_eq, arith, eq-eqb, ltb-true, ltb-false}
 use Rattle.std.proofs.Math.Bool.{Bool, not, and-false}
-use mathlib.Core.List.{List, [], ◌∷◌, ◌++◌, append_nil, append_assoc}
+use mathlib.Core.List.{List, [], ◌∷◌, ◌++◌, append-nil, append_assoc}
 use Rattle.rules.specs.Lists.{one, each, keep, tick, count}
 use Rattle.rules.specs.Refusals.{first_of}
 use Rattle.rules.specs.Files.{Case}
@@ -32,8 +32,8 @@ module _ (C : Case) (t : ℕ) (e : Place) (k : ℕ) where
   unfolding pass_train
   pass_train-stays s h =
       λ i. state
-      ((ap₂ (λ (y z : List Mark). y ++ each (entered C t e) z) (keep-others (goes C t e k s.list) s.list h) (keep-none (goes C t e k s.list) s.list h) ∙ append_nil s.list) i)
-      ((ap (λ (z : List Mark). s.arrived ++ each (arriving C t e) z) (keep-none (goes C t e k s.list) s.list h) ∙ append_nil s.arrived) i)
+      ((ap₂ (λ (y z : List Mark). y ++ each (entered C t e) z) (keep-others (goes C t e k s.list) s.list h) (keep-none (goes C t e k s.list) s.list h) ∙ append-nil s.list) i)
+      ((ap (λ (z : List Mark). s.arrived ++ each (arriving C t e) z) (keep-none (goes C t e k s.list) s.list h) ∙ append-nil s.arrived) i)
       s.met
 
   -- the one mark that enters leaves its row, and its new marks go to the end
@@ -42,8 +42,8 @@ module _ (C : Case) (t : ℕ) (e : Place) (k : ℕ) where
   unfolding pass_train
   pass_train-enters s o =
       λ i. state
-      (ap₂ (λ (y z : List Mark). y ++ z) stay (ap (each (entered C t e)) going ∙ append_nil (entered C t e o.the)) i)
-      (ap (λ (z : List (Arrival Mark)). s.arrived ++ z) (ap (each (arriving C t e)) going ∙ append_nil (arriving C t e o.the)) i)
+      (ap₂ (λ (y z : List Mark). y ++ z) stay (ap (each (entered C t e)) going ∙ append-nil (entered C t e o.the)) i)
+      (ap (λ (z : List (Arrival Mark)). s.arrived ++ z) (ap (each (arriving C t e)) going ∙ append-nil (arriving C t e o.the)) i)
       s.met
     where
       test : Mark → Bool
@@ -102,7 +102,7 @@ module _ (C : Case) (t : ℕ) (e : Place) (k : ℕ) where
   walk_skip : (done front rest : List Mark) (v : List (Arrival Mark)) (n : ℕ) → Every (λ m. asks_for C t e k m ≡ false) front
       → walk C (single_rules C) t e k done (front ++ rest) [] v n ≡ walk C (single_rules C) t e k (done ++ front) rest [] v n
   unfolding walk single_rules
-  walk_skip done [] rest v n h = ap (λ (d : List Mark). walk C (single_rules C) t e k d rest [] v n) (sym (append_nil done))
+  walk_skip done [] rest v n h = ap (λ (d : List Mark). walk C (single_rules C) t e k d rest [] v n) (sym (append-nil done))
   walk_skip done (m ∷ front) rest v n h =
       ap (walk_one C (single_rules C) t e (λ d w. walk C (single_rules C) t e k d (front ++ rest) w) done m (front ++ rest) [] v n) h.0
       ∙ walk_skip (done ++ (m ∷ [])) front rest v n h.1
@@ -116,7 +116,7 @@ module _ (C : Case) (t : ℕ) (e : Place) (k : ℕ) where
       by : AtMostOne (asks_for C t e k) s.list → walk_all C (single_rules C) t e k s ≡ pass_train C t e k s
       by (none h) =
           walk-nobody C (single_rules C) t e k [] s.list [] s.arrived s.met h
-          ∙ ap (λ (l : List Mark). state l s.arrived s.met) (append_nil s.list)
+          ∙ ap (λ (l : List Mark). state l s.arrived s.met) (append-nil s.list)
           ∙ sym (pass_train-nobody s h)
       by (single a) =
           ap (λ (l : List Mark). walk C (single_rules C) t e k [] l [] s.arrived s.met) a.split
@@ -130,7 +130,7 @@ module _ (C : Case) (t : ℕ) (e : Place) (k : ℕ) where
           cur = a.front ++ (a.the ∷ (a.back ++ []))
 
           here : cur ≡ s.list
-          here = ap (λ (l : List Mark). a.front ++ (a.the ∷ l)) (append_nil a.back) ∙ sym a.split
+          here = ap (λ (l : List Mark). a.front ++ (a.the ∷ l)) (append-nil a.back) ∙ sym a.split
 
           u : Served Mark
           u = serve_train C t e cur a.the
@@ -150,7 +150,7 @@ module _ (C : Case) (t : ℕ) (e : Place) (k : ℕ) where
           go : (b : Bool) → admits C e k s.list ≡ b → after (came b) s.met ≡ pass_train C t e k s
           go true q =
               ap (λ (l : List Mark). state l (s.arrived ++ arriving C t e a.the) s.met)
-              (ap (λ (l : List Mark). l ++ (a.back ++ entered C t e a.the)) (append_nil a.front) ∙ sym (append_assoc a.front a.back (entered C t e a.the)))
+              (ap (λ (l : List Mark). l ++ (a.back ++ entered C t e a.the)) (append-nil a.front) ∙ sym (append_assoc a.front a.back (entered C t e a.the)))
               ∙ sym (pass_train-enters s record {
                 front = a.front;
                 the = a.the;
@@ -161,7 +161,7 @@ module _ (C : Case) (t : ℕ) (e : Place) (k : ℕ) where
                 back_none = every_more (λ m. asks_for C t e k m ≡ false) (λ m. goes C t e k s.list m ≡ false) (λ m r. goes_if true q m false r) a.back a.back_none;
               })
           go false q =
-              (λ i. state (whole i) (append_nil s.arrived i) s.met)
+              (λ i. state (whole i) (append-nil s.arrived i) s.met)
               ∙ sym (pass_train-stays s (every_all (λ m. goes C t e k s.list m ≡ false) (λ m. goes_if false q m (asks_for C t e k m) refl ∙ and-false (asks_for C t e k m)) s.list))
             where
               whole : (a.front ++ (a.the ∷ [])) ++ (a.back ++ []) ≡ s.list

@@ -5,7 +5,7 @@ use Rattle.std.proofs.Common.{sym, ◌∙◌, arith}
 use Rattle.std.proofs.Math.Path.{ap, subst}
 use Rattle.std.proofs.Math.Bool.{true, false, or-true}
 use Rattle.std.proofs.lemmas.Bool.{false≢true}
-use mathlib.Core.List.{List, [], ◌∷◌, ◌++◌, map, append_nil}
+use mathlib.Core.List.{List, [], ◌∷◌, ◌++◌, map, append-nil}
 use Rattle.std.proofs.Math.ListN.{length}
 use Rattle.rules.specs.Lists.{any, below}
 use Rattle.rules.specs.Files.{Stop, Case}
@@ -130,7 +130,7 @@ module _ (C : Case) (sound : Sound C) where
     pub walk-bounded : (k : ℕ) (l : List A) (v : List (Arrival A)) (n : ℕ) → AllBounded C R.mark l → AllBounded C R.mark (walk C R t e k [] l [] v n).list
     walk-bounded k l v n q =
         walk_keeps C R t e (λ u w. AllBounded C R.mark u) (λ b a c w ask p. serve-bounded b a c ask p) k [] l [] v n
-        (subst (AllBounded C R.mark) (sym (append_nil l)) q)
+        (subst (AllBounded C R.mark) (sym (append-nil l)) q)
 
   -- ---- passes
 

@@ -3,7 +3,7 @@
 use Rattle.std.specs.Prelude.{◌≡◌, Bool, false, not, cond, ℕ, ◌≤◌, ◌<◌, ltb}
 use Rattle.std.proofs.Math.Path.{sym, ap, subst}
 use Rattle.std.proofs.Common.{◌∙◌, le_refl, le_of_eq, arith, ltb-false, lt-ltb}
-use mathlib.Core.List.{List, [], append_nil}
+use mathlib.Core.List.{List, [], append-nil}
 use Rattle.std.proofs.Math.Nat.{le_trans}
 use Rattle.std.proofs.Math.ListN.{length}
 use Rattle.rules.specs.Refusals.{first_of}
@@ -45,7 +45,7 @@ module _ (C : Case) where
     unfolding joint_rules
     walk-proper l v n p q =
         walk_keeps C (joint_rules C) t e (λ l v. Every (Proper C) l × Every (λ a. Proper C a.who) v) (λ b a c v ask h. serve-proper C t e b a c v h.0 h.1)
-        k [] l [] v n (subst (Every (Proper C)) (sym (append_nil l)) p, q)
+        k [] l [] v n (subst (Every (Proper C)) (sym (append-nil l)) p, q)
 
     -- the askers of a train, served one after another, are served as in a pass
     pub walk-pass : (s : State Entry) → Lawful C s → walk_all C (joint_rules C) t e k s ≡ pass C t e k s
@@ -56,7 +56,7 @@ module _ (C : Case) where
         met : (walk_all C (joint_rules C) t e k s).met ≡ first_of (ltb 0 s.met) s.met (check_list C (pass_list C t e k s.list))
         met =
             walk-met C (joint_rules C) t e (serve_entry-grows C) C.head.room (check_list-room C)
-            k [] s.list [] s.arrived s.met (λ z. le_trans (le_of_eq (ap length (append_nil s.list))) (w.fits z))
+            k [] s.list [] s.arrived s.met (λ z. le_trans (le_of_eq (ap length (append-nil s.list))) (w.fits z))
             ∙ ap (λ (l : List Entry). first_of (ltb 0 s.met) s.met (check_list C l)) (walk-list C t e k s.list s.arrived s.met)
 
     pass_list-proper : (s : State Entry) → Lawful C s → Every (Proper C) (pass_list C t e k s.list)
@@ -78,7 +78,7 @@ module _ (C : Case) where
     pass-nobody s w h =
         sym (walk-pass s w)
         ∙ walk-nobody C (joint_rules C) t e k [] s.list [] s.arrived s.met h
-        ∙ ap (λ (l : List Entry). state l s.arrived s.met) (append_nil s.list)
+        ∙ ap (λ (l : List Entry). state l s.arrived s.met) (append-nil s.list)
 
     -- ---- what a pass meets
 

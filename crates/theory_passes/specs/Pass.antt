@@ -5,7 +5,7 @@ use Rattle.std.specs.Prelude.{◌≡◌, Bool, true, false, not, ◌&&◌, ℕ, 
 use Rattle.std.proofs.Math.Path.{refl, sym, ap, ap₂}
 use Rattle.std.proofs.Common.{◌∙◌, subst, subst₂, eq-eqb}
 use Rattle.std.proofs.Math.Bool.{cond}
-use mathlib.Core.List.{List, [], ◌∷◌, ◌++◌, append_nil, append_assoc}
+use mathlib.Core.List.{List, [], ◌∷◌, ◌++◌, append-nil, append_assoc}
 use Rattle.rules.specs.Lists.{one, each}
 use Rattle.rules.specs.Files.{Case}
 use Rattle.rules.specs.Turns.{Place, same, paired, Served, served, State, Arrival}
@@ -62,7 +62,7 @@ module _ (test : Place → Bool) (k : ℕ) where
       own l w q =
           others-append l w
           ∙ ap (λ (z : List Cover). others l ++ z) (others-own w (every_more (λ i. i.mark.train ≡ r.mark.train) (λ i. i.mark.train ≡ k) (λ i j. j ∙ h) w q))
-          ∙ append_nil (others l)
+          ∙ append-nil (others l)
 
 -- ---- a walk is a pass
 
@@ -108,7 +108,7 @@ module _ (C : Case) (t : ℕ) (e : Place) (k : ℕ) (far qs : List Cover) where
 
   walk-passed : (done rest new : List Entry) (v : List (Arrival Entry)) (n : ℕ) → Met (done ++ (rest ++ new)) → Walked done rest new v (walk C (joint_rules C) t e k done rest new v n)
   unfolding walk joint_rules
-  walk-passed done [] new v n h = record { list = sym (ap₂ ◌++◌ (append_nil done) (append_nil new)); arrived = sym (append_nil v) }
+  walk-passed done [] new v n h = record { list = sym (ap₂ ◌++◌ (append-nil done) (append-nil new)); arrived = sym (append-nil v) }
   walk-passed done (r ∷ rest) new v n h = go (mine C (joint_rules C) t e k r) refl (λ d w. walk-passed d rest w)
     where
       -- what the next rows come to, put together with what this row came to
@@ -148,7 +148,7 @@ module _ (C : Case) (t : ℕ) (e : Place) (k : ℕ) (far qs : List Cover) where
           joined (walk C (joint_rules C) t e k (done ++ (r ∷ [])) rest new v n) (r ∷ []) [] []
           (ap (λ (z : Served Entry). z.rows) (passed-other r q)) (ap (λ (z : Served Entry). z.added) (passed-other r q)) (ap (λ (z : Served Entry). z.arrived) (passed-other r q))
           (subst₂ (λ (y : List Entry) (z : List (Arrival Entry)). Walked (done ++ (r ∷ [])) rest y z (walk C (joint_rules C) t e k (done ++ (r ∷ [])) rest new v n))
-          (sym (append_nil new)) (sym (append_nil v))
+          (sym (append-nil new)) (sym (append-nil v))
           (ih (done ++ (r ∷ [])) new v n (subst Met (sym (append_assoc done (r ∷ []) (rest ++ new))) h)))
 
 -- ---- a whole list
@@ -157,7 +157,7 @@ module _ (C : Case) (t : ℕ) (e : Place) (k : ℕ) (l : List Entry) (v : List (
   walked : Walked C t e k (meets_across C e k l) (meets e k l) [] l [] v (walk C (joint_rules C) t e k [] l [] v n)
   walked =
       walk-passed C t e k (meets_across C e k l) (meets e k l) [] l [] v n
-      (record { across = ap (meets_across C e k) (append_nil l); own = ap (meets e k) (append_nil l) })
+      (record { across = ap (meets_across C e k) (append-nil l); own = ap (meets e k) (append-nil l) })
 
   pub walk-list : (walk C (joint_rules C) t e k [] l [] v n).list ≡ pass_list C t e k l
   unfolding pass_list

@@ -3,7 +3,7 @@
 use Rattle.std.specs.Prelude.{◌≡◌, ℕ}
 use Rattle.std.proofs.Math.Path.{refl, subst₂}
 use Rattle.std.proofs.Common.{sym, ap, le_refl}
-use mathlib.Core.List.{List, [], append_nil}
+use mathlib.Core.List.{List, [], append-nil}
 use Rattle.rules.specs.Files.{Case}
 use Rattle.rules.specs.Turns.{Place, Mark, State}
 use Rattle.rules.specs.Single.{first_marks, single_rules, single}
@@ -27,7 +27,7 @@ module _ (C : Case) (sound : Sound C) where
   pass_train-orderly t e k s o =
       subst₂ (Orderly C) (ap (λ (u : State Mark). u.list) (walk-pass_train C t e k s o)) (ap (λ (u : State Mark). u.arrived) (walk-pass_train C t e k s o))
       (walk_keeps C (single_rules C) t e (Orderly C) (λ b a c v ask h. serve-orderly C sound t e a ask b c v h)
-      k [] s.list [] s.arrived s.met (subst₂ (Orderly C) (sym (append_nil s.list)) refl o))
+      k [] s.list [] s.arrived s.met (subst₂ (Orderly C) (sym (append-nil s.list)) refl o))
 
   pub cleared-orderly : (t : ℕ) (s : State Mark) → InOrder C s → InOrder C (cleared (λ m. m) t s)
   cleared-orderly t s o = end-orderly C t s.list s.arrived o

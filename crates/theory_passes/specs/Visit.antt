@@ -5,7 +5,7 @@ use Rattle.std.proofs.Math.Path.{refl, sym, ap}
 use Rattle.std.proofs.Common.{ap₂, ◌∙◌, le_trans, le_of_eq, arith, ltb-true, ltb-false, eqb-true, eq-eqb}
 use Rattle.std.proofs.Math.Bool.{true, false, and-false, or-true}
 use Rattle.std.proofs.lemmas.Bool.{false≢true}
-use mathlib.Core.List.{List, [], ◌∷◌, ◌++◌, map, append_nil, append_assoc}
+use mathlib.Core.List.{List, [], ◌∷◌, ◌++◌, map, append-nil, append_assoc}
 use Rattle.std.proofs.lemmas.List.{length-map}
 use Rattle.std.proofs.Math.ListN.{get_or-eq_default}
 use Rattle.rules.specs.Lists.{fold, has}
@@ -188,8 +188,8 @@ module _ {A : Type 0} (C : Case) (R : Rules A) (t : ℕ) (e : Place) where
   serve_walks own [] o f l v n h =
       ap left (turns-nobody C R f t e (visiting (flag [] l) v n) (flag-nobody l)) ∙ ap (λ (w : List A). state w v n) (items-flag [] l)
   serve_walks own (k ∷ ks) o f l v n h =
-      ap (λ (rs : List (Row A)). after_turns f rs v n) (sym (append_nil (flag (k ∷ ks) l)))
-      ∙ serve-walk own k ks o (fold (walk_all C R t e) ks) (serve_walks own ks o.1) [] l [] v n f (le_trans (le_of_eq (ap askers (append_nil (flag (k ∷ ks) l)))) h)
+      ap (λ (rs : List (Row A)). after_turns f rs v n) (sym (append-nil (flag (k ∷ ks) l)))
+      ∙ serve-walk own k ks o (fold (walk_all C R t e) ks) (serve_walks own ks o.1) [] l [] v n f (le_trans (le_of_eq (ap askers (append-nil (flag (k ∷ ks) l)))) h)
 
   -- a train that asks is one of the case
   pub asks-known : (m : Mark) → asks C t e m ≡ true → m.train < length C.trains

@@ -5,7 +5,7 @@ use Rattle.std.proofs.Math.Path.{refl, sym, ap, ap₂}
 use Rattle.std.proofs.Common.{◌∙◌, arith}
 use Rattle.std.proofs.Math.Bool.{true, false, not, and-false, and-true}
 use Rattle.std.proofs.lemmas.Bool.{false≢true}
-use mathlib.Core.List.{List, [], ◌∷◌, ◌++◌, map, append_nil}
+use mathlib.Core.List.{List, [], ◌∷◌, ◌++◌, map, append-nil}
 use Rattle.rules.specs.Lists.{one, each, any, has}
 use Rattle.rules.specs.Joint.{Cover, common, without, is_empty, inside, apart, outsides, covers}
 use Rattle.theory_lists.specs.Tests.{and_true-first, and_true-second}
@@ -131,7 +131,7 @@ module _ {ℓ} {A : Type ℓ} (v : A) where
     where
       go : (b : Bool) → is_empty s ≡ b → each (λ q. one (covers q (d ∷ x)) v) (one (not b) (s ∷ p)) ≡ one (has s d && covers p x) v
       go true h = sym (ap (λ (z : Bool). one (z && covers p x) v) (has-empty s d h))
-      go false h = append_nil (one (has s d && covers p x) v)
+      go false h = append-nil (one (has s d && covers p x) v)
 
   -- the pieces of the later trains, each with the set u before it
   later_law : (d : ℕ) (x : List ℕ) (u : List ℕ) (l : List Cover) (r : Bool) → each (λ q. one (covers q x) v) l ≡ one r v

@@ -2,7 +2,7 @@
 -- Both are one equation about what a choice sees of the pieces, by induction on the covers still to meet: once for the element's own, once for its partner's.
 -- Assumes nothing.
 use Rattle.std.specs.Prelude.{◌≡◌, refl, Bool, true, false, not, ◌&&◌, ◌||◌, cond, List, [], ◌∷◌, ◌++◌, ℕ, suc, ◌+◌, ◌≤◌, length, leb, ltb}
-use Rattle.std.proofs.Common.{sym, ap, ap₂, ◌∙◌, append_nil, add-zero, arith, leb-true, ltb-true, le-leb}
+use Rattle.std.proofs.Common.{sym, ap, ap₂, ◌∙◌, append-nil, add-zero, arith, leb-true, ltb-true, le-leb}
 use Rattle.std.proofs.lemmas.Bool.{false≢true, lt-leb}
 use Rattle.rules.specs.Lists.{one, each, any, tick, count}
 use Rattle.rules.specs.Files.{Case}
@@ -42,7 +42,7 @@ both_sides false cq cap n h = refl
 pub carry_law : (x : List ℕ) (cap : ℕ) (qs : List Cover) → Every (Fits x) qs → (n : ℕ) (p : Cover) → Fits x p
     → verdicts x (carry cap qs n p) ≡ one (covers p x) (leb cap (n + hits x qs))
 unfolding carry verdicts
-carry_law x cap [] fs n p f = append_nil (one (covers p x) (leb cap n)) ∙ ap (λ (z : ℕ). one (covers p x) (leb cap z)) (sym (add-zero n))
+carry_law x cap [] fs n p f = append-nil (one (covers p x) (leb cap n)) ∙ ap (λ (z : ℕ). one (covers p x) (leb cap z)) (sym (add-zero n))
 carry_law x cap (q ∷ qs) fs n p f =
     go (leb cap n) (ltb (n + suc (length qs)) cap) (apart (inside p q)) refl refl refl (carry_law x cap qs fs.1)
   where
@@ -51,10 +51,10 @@ carry_law x cap (q ∷ qs) fs n p f =
         → verdicts x (cond full (piece p true ∷ []) (cond few (piece p false ∷ []) (cond none (carry cap qs n p) (carry cap qs (suc n) (inside p q) ++ each (carry cap qs n) (outsides p (inside p q))))))
         ≡ one (covers p x) (leb cap (n + (tick (covers q x) + hits x qs)))
     go true few none h₁ h₂ h₃ ih =
-        append_nil (one (covers p x) true)
+        append-nil (one (covers p x) true)
         ∙ ap (one (covers p x)) (sym (le-leb cap (n + (tick (covers q x) + hits x qs)) (omega (arith, leb-true cap n h₁))))
     go false true none h₁ h₂ h₃ ih =
-        append_nil (one (covers p x) false)
+        append-nil (one (covers p x) false)
         ∙ ap (one (covers p x))
         (sym (lt-leb cap (n + (tick (covers q x) + hits x qs)) (omega (arith, ltb-true (n + suc (length qs)) cap h₂, tick-le (covers q x), hits-le x qs))))
     go false false true h₁ h₂ h₃ ih =

@@ -6,7 +6,7 @@ use Rattle.std.proofs.Math.Path.{refl, ap, ap₂, subst}
 use Rattle.std.proofs.Common.{sym, ◌∙◌, le_trans, le_refl}
 use Rattle.std.proofs.Math.Bool.{true, false, not, and-false}
 use Rattle.std.proofs.lemmas.Bool.{false≢true}
-use mathlib.Core.List.{List, [], ◌∷◌, ◌++◌, append_nil, append_assoc}
+use mathlib.Core.List.{List, [], ◌∷◌, ◌++◌, append-nil, append_assoc}
 use native.Mathlib.Omega.{arith}
 use Rattle.std.proofs.Math.Dec.{ltb}
 use borrow.Author.Tests.{eqb-true, ltb-true, ltb-false, lt-ltb, le-ltb, eq-eqb}
@@ -65,7 +65,7 @@ module _ (C : Case) (sound : Sound C) (t : ℕ) (E : Place → Type 0) (Q : List
     where
       go : (z : Bool) → Q (served_list (cond z (served [] (entered C t p m) (arriving C t p m)) (served (m ∷ []) [] [])) b c)
       go true = by-enter p h b m c v ask both.0 both.1
-      go false = subst Q (sym (append_nil (b ++ (m ∷ []) ++ c) ∙ append_assoc b (m ∷ []) c)) both.1
+      go false = subst Q (sym (append-nil (b ++ (m ∷ []) ++ c) ∙ append_assoc b (m ∷ []) c)) both.1
 
   visits_both : (ps : List Place) → Every E ps → (s : State Mark) → Both s.list s.arrived
       → Both (fold (visit C (single_rules C) t) ps s).list (fold (visit C (single_rules C) t) ps s).arrived

@@ -6,7 +6,7 @@ use Rattle.std.proofs.Math.Path.{refl, ap, subst}
 use Rattle.std.proofs.Common.{sym, ◌∙◌, le_refl, arith}
 use Rattle.std.proofs.Math.Bool.{Bool, true, false}
 use Rattle.std.proofs.lemmas.Bool.{false≢true, not-true}
-use mathlib.Core.List.{List, [], ◌∷◌, ◌++◌, append_nil, append_assoc}
+use mathlib.Core.List.{List, [], ◌∷◌, ◌++◌, append-nil, append_assoc}
 use Rattle.std.proofs.Math.Dec.{ltb}
 use Rattle.rules.specs.Lists.{keep, tick, count}
 use Rattle.rules.specs.Files.{Case}
@@ -105,7 +105,7 @@ module _ (C : Case) (sound : Sound C) where
       where
         go : (z : Bool) → enters C e m.train before ≡ z → OneSide C (served_list (cond z (served [] (entered C t e m) (arriving C t e m)) (served (m ∷ []) [] [])) b c)
         go true h = entered_side h side
-        go false h = subst (OneSide C) (sym (append_nil (b ++ (m ∷ []) ++ c) ∙ append_assoc b (m ∷ []) c)) side
+        go false h = subst (OneSide C) (sym (append-nil (b ++ (m ∷ []) ++ c) ∙ append_assoc b (m ∷ []) c)) side
 
   -- ---- the run
 

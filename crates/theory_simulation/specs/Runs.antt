@@ -4,7 +4,7 @@ use Rattle.std.specs.Prelude.{◌≡◌, Bool, false, cond, length}
 use Rattle.std.proofs.Math.Path.{refl, sym, ap, subst}
 use Rattle.std.proofs.Common.{◌∙◌, le_trans, le_of_eq}
 use Rattle.std.proofs.Math.Bool.{true, not}
-use mathlib.Core.List.{List, [], ◌∷◌, ◌++◌, map, append_nil}
+use mathlib.Core.List.{List, [], ◌∷◌, ◌++◌, map, append-nil}
 use Prim.Native.Nat.{ℕ, zero, suc, ◌+◌, ◌≤◌}
 use native.Mathlib.Omega.{arith}
 use Rattle.std.proofs.lemmas.List.{length-map}
@@ -158,12 +158,12 @@ module _ (C : Case) (sound : Sound C) (x : List ℕ) (ch : Choice C x) where
         rows =
             view_rows-served x came b c
             ∙ ap (λ (s : Served Mark). served_rows s (view_rows x b) (view_rows x c)) nothing
-            ∙ append_nil (view_rows x b ++ [] ++ view_rows x c)
-            ∙ ap (λ (l : List (Row Mark)). l ++ view_rows x c) (append_nil (view_rows x b))
+            ∙ append-nil (view_rows x b ++ [] ++ view_rows x c)
+            ∙ ap (λ (l : List (Row Mark)). l ++ view_rows x c) (append-nil (view_rows x b))
             ∙ sym (around_view b a c false q)
             ∙ ap (view_rows x) (sym first.apart)
             ∙ at.rows;
-        arrived = arrived-after ∙ ap (λ (s : Served Mark). w ++ s.arrived) nothing ∙ append_nil w;
+        arrived = arrived-after ∙ ap (λ (s : Served Mark). w ++ s.arrived) nothing ∙ append-nil w;
         asking = asking-after;
         proper = proper-after;
         orderly = at.orderly;

@@ -4,7 +4,7 @@ use Rattle.std.specs.Prelude.{◌≡◌, not, ◌&&◌, ◌||◌, cond, ℕ, ◌
 use Rattle.std.proofs.Math.Path.{refl, ap, subst₂}
 use Rattle.std.proofs.Common.{sym, ap₂, ◌∙◌, subst, eqb-true, ltb-true, ltb-false, lt-ltb, eq-eqb}
 use Rattle.std.proofs.Math.Bool.{Bool, true, false, and-false, and-true}
-use mathlib.Core.List.{List, [], ◌∷◌, ◌++◌, append_nil, append_assoc}
+use mathlib.Core.List.{List, [], ◌∷◌, ◌++◌, append-nil, append_assoc}
 use Rattle.std.proofs.Math.Nat.{le_trans}
 use native.Mathlib.Omega.{arith}
 use Rattle.std.proofs.Math.Dec.{ltb, eqb}
@@ -225,7 +225,7 @@ module _ (C : Case) (sound : Sound C) (t : ℕ) (e : Place) (m : Mark) (ask : as
             → Orderly C (served_list (cond z (served [] (entered C t e m) (arriving C t e m)) (served (m ∷ []) [] [])) b c)
             (v ++ (cond z (served [] (entered C t e m) (arriving C t e m)) (served (m ∷ []) [] [])).arrived)
         go true h = after-orderly h
-        go false h = subst₂ (Orderly C) (sym (append_nil (b ++ (m ∷ []) ++ c) ∙ append_assoc b (m ∷ []) c)) (sym (append_nil v)) o
+        go false h = subst₂ (Orderly C) (sym (append-nil (b ++ (m ∷ []) ++ c) ∙ append_assoc b (m ∷ []) c)) (sym (append-nil v)) o
 
 -- ---- blocks that end
 

@@ -5,7 +5,7 @@ use Rattle.std.specs.Prelude.{◌≡◌, ◌&&◌, leb, eqb}
 use Rattle.std.proofs.Math.Path.{refl, sym, ap, ap₂}
 use Rattle.std.proofs.Common.{◌∙◌, arith}
 use Rattle.std.proofs.Math.Bool.{Bool, true, false, not, ◌||◌, cond}
-use mathlib.Core.List.{List, [], ◌∷◌, ◌++◌, map, append_nil}
+use mathlib.Core.List.{List, [], ◌∷◌, ◌++◌, map, append-nil}
 use Prim.Native.Nat.{ℕ}
 use Rattle.rules.specs.Lists.{one, each, keep, any, tick, sum, count}
 use Rattle.rules.specs.Files.{Case}
@@ -253,7 +253,7 @@ module _ (x : List ℕ) where
 
       go : (b : Bool) → verdicts x (cond b (piece r.cover false ∷ []) (across (carry (capacity C e) met 0) (meets_across C e k rs) r.cover))
           ≡ one (covers r.cover x) (not b && (partner_held C e k (view x rs) || full))
-      go true = append_nil (one (covers r.cover x) false)
+      go true = append-nil (one (covers r.cover x) false)
       go false =
           across_law x (carry (capacity C e) met 0) full own (meets_across C e k rs) (across-covers (Fits x) C e k rs fs) r.cover f
           ∙ ap (λ (z : Bool). one (covers r.cover x) (z || full)) (across-hit C e k rs)

@@ -1,7 +1,7 @@
 -- A couple that breaks no rule is sound: it has two tracks that lead there and back, and neither stands in an earlier couple.
 -- It stays sound while tracks are added, and no track ever stands in two couples, since what is added is new. Assumes nothing.
 use Rattle.std.specs.Prelude.{◌≡◌, refl, Bool, true, false, not, ◌||◌, List, [], ◌∷◌, ◌++◌, map, ℕ, zero, suc, ◌<◌, length, get_or, leb, eqb}
-use Rattle.std.proofs.Common.{sym, ap, ◌∙◌, append_nil, append_assoc, arith, length-append, leb-false, eqb-true, ne_eqb}
+use Rattle.std.proofs.Common.{sym, ap, ◌∙◌, append-nil, append_assoc, arith, length-append, leb-false, eqb-true, ne_eqb}
 use Rattle.std.proofs.lemmas.List.{length-map}
 use Rattle.std.proofs.Math.ListN.{get_or-append}
 use Rattle.std.proofs.lemmas.Bool.{not-false}
@@ -130,4 +130,4 @@ coupled_once n c true p e r h =
     let new = h refl in
     coupled-more c.couples p r new.first_free new.second_free
     (ne_eqb p.second p.first (λ q. two-tracks n c.tracks p e new.sound (sym q)))
-coupled_once n c false p e r h = ap (λ (l : List Couple). repeats (coupled l)) (append_nil c.couples) ∙ r
+coupled_once n c false p e r h = ap (λ (l : List Couple). repeats (coupled l)) (append-nil c.couples) ∙ r

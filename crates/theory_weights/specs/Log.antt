@@ -2,7 +2,7 @@
 -- and later minutes only add later arrivals. Each asker adds at the end what its serving says. Assumes nothing.
 use Rattle.std.specs.Prelude.{◌≡◌, Bool, cond, List, [], ◌∷◌, ◌++◌}
 use Rattle.std.proofs.Math.Path.{refl, subst}
-use Rattle.std.proofs.Common.{sym, ap, ◌∙◌, append_assoc, append_nil}
+use Rattle.std.proofs.Common.{sym, ap, ◌∙◌, append_assoc, append-nil}
 use Rattle.std.proofs.Math.Bool.{true, false}
 use Prim.Native.Nat.{ℕ, zero, suc, ◌≤◌, ◌<◌}
 use native.Mathlib.Omega.{arith}
@@ -23,7 +23,7 @@ pub record Grown {A : Type 0} (p : A → Type 0) (v w : List A) : Type 0 where
 
 module _ {A : Type 0} {p : A → Type 0} where
   pub grown-not : (v : List A) → Grown p v v
-  grown-not v = record { new = []; grown = sym (append_nil v); kind = tt }
+  grown-not v = record { new = []; grown = sym (append-nil v); kind = tt }
 
   pub grown_by : (v s : List A) → Every p s → Grown p v (v ++ s)
   grown_by v s h = record { new = s; grown = refl; kind = h }

@@ -4,7 +4,7 @@ use Rattle.std.specs.Prelude.{◌≡◌, Bool, ℕ, ◌+◌, ◌*◌, ◌/◌, �
 use Rattle.std.proofs.Math.Path.{refl, ap, ap₂}
 use Rattle.std.proofs.Common.{sym, ◌∙◌, subst, arith, length-set}
 use Rattle.std.proofs.Math.Bool.{true, false, cond, false≢true}
-use mathlib.Core.List.{List, [], ◌∷◌, ◌++◌, append_nil}
+use mathlib.Core.List.{List, [], ◌∷◌, ◌++◌, append-nil}
 use Rattle.std.proofs.Math.Decide.{dec_lt}
 use Rattle.std.proofs.Math.Seq.{slice, get_or-set_other}
 use Rattle.std.specs.Int.Bits.{bit_and, and_zero_r}
@@ -55,7 +55,7 @@ module _ (T : List ℕ) (q : Job) (u : ℕ) (l : List Row) (none : Every (λ r. 
       ap₂ (λ (a : List Row) (b : List ℕ). a ++ entered_rows q.stands q.blocks q.two b)
       (each_every (λ r. stirred_of T q u r ≡ false) (hold_stirred T q u (met_for q l)) (λ r. r ∷ []) (λ r h. rw h refl) l none ∙ each_self l)
       (each_every (λ r. stirred_of T q u r ≡ false) (enter_stirred T q u (met_for q l)) (λ r. []) (λ r h. rw h refl) l none ∙ each_none l)
-      ∙ append_nil l
+      ∙ append-nil l
 
   still-covers : stirred_covers T q u l ≡ []
   unfolding stirred_covers

@@ -4,7 +4,7 @@ use Rattle.std.specs.Prelude.{◌≡◌, Bool, not, ℕ, ◌+◌, ◌/◌, ◌%�
 use Rattle.std.proofs.Math.Path.{refl, ap, ap₂, subst}
 use Rattle.std.proofs.Common.{sym, ◌∙◌, arith}
 use Rattle.std.proofs.Math.Bool.{true, false, cond, false≢true}
-use mathlib.Core.List.{List, [], ◌∷◌, ◌++◌, map, append_nil}
+use mathlib.Core.List.{List, [], ◌∷◌, ◌++◌, map, append-nil}
 use borrow.Author.Tests.{eq-eqb, ltb-true, ltb-false, lt-ltb, le-ltb}
 use Rattle.std.specs.Int.Bits.{bit_and}
 use Rattle.rules.specs.Lists.{one, each, keep}
@@ -338,7 +338,7 @@ module _ (T : List ℕ) (n t : ℕ) (stir asked stir' asked' : ℕ → ℕ) (l :
   calm_swept h c =
       let gone : Row → List Row = λ r. one (not (ended_of t r.state)) r in
       let kept : List Row = each gone l in
-      subst (λ (x : List Row). Every (Settled T n stir' asked' x) kept) (append_nil kept)
+      subst (λ (x : List Row). Every (Settled T n stir' asked' x) kept) (append-nil kept)
       (every_each (Settled T n stir asked l) (Settled T n stir' asked' (kept ++ [])) gone
       (λ r k. every_one (Settled T n stir' asked' (kept ++ [])) (not (ended_of t r.state)) r
       (λ b. settled_next T stir' asked' gone [] l (every_more Cleared (λ x. Moved T stir' asked' x (gone x)) cleared-moved l c) tt n stir asked r (nexts r.state k.train) (λ w. grown (spot_of T r.state)) (more (spot_of T r.state)) k)) l h)
@@ -357,7 +357,7 @@ module _ (T : List ℕ) (n : ℕ) (stir asked stir' asked' : ℕ → ℕ) (l : L
 
   settled_later : (r : Row) → Settled T n stir asked l r → Marked r → Settled T (n + 1) stir' asked' l r
   settled_later r h m =
-      let same : each (λ x. x ∷ []) l ++ [] ≡ l = append_nil (each (λ x. x ∷ []) l) ∙ each_self l in
+      let same : each (λ x. x ∷ []) l ++ [] ≡ l = append-nil (each (λ x. x ∷ []) l) ∙ each_self l in
       let now : Settled T n stir' asked' l r = subst (λ (x : List Row). Settled T n stir' asked' x r) same
       (settled_next T stir' asked' (λ x. x ∷ []) [] l (all_stay l) tt n stir asked r (nexts r.state h.train) (λ w. grown (spot_of T r.state)) (more (spot_of T r.state)) h) in
       record {
