@@ -1,4 +1,6 @@
 // Who asks for an element, what a pass is for, and the covers that its train meets, on rows of two words.
+#![tactic(auto)]
+
 ghost use Rattle.std.specs.Prelude.{◌≡◌, ◌*◌, ◌<◌, ◌≤◌, true, false, length, slice_index};
 ghost use Rattle.std.proofs.Math.Seq.{slice};
 ghost use Rattle.theory_lists.specs.Every.{Every};

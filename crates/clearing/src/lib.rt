@@ -1,4 +1,6 @@
 // The start of a minute: the blocks that ended go, and rows that are due now wait; both only where a row shows such a minute.
+#![tactic(auto)]
+
 ghost use Rattle.std.specs.Prelude.{◌≡◌, false, ◌+◌, ◌*◌, ◌/◌, ◌≤◌, ◌<◌, length, take};
 ghost use Rattle.rules.specs.Sweep.{first_to_go};
 ghost use Rattle.theory_lists.specs.Every.{Every};

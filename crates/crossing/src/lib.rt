@@ -1,4 +1,6 @@
 // The cutting rule among the partner's entries, on packed covers: what has passed them goes on among the element's own, by `cut`.
+#![tactic(auto)]
+
 ghost use Rattle.std.specs.Prelude.{◌-◌, ◌≤◌, length};
 ghost use Rattle.rules.specs.Lists.{each};
 ghost use Rattle.cut.specs.Cut.{outs, Room, fitting, Wrote};

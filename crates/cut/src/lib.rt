@@ -1,5 +1,7 @@
 // The cutting rule on packed covers: one u64 holds a set of delays for each of eight trains, train k's in byte k, delay d as bit d.
 // A train that is not there has the set 1, so that no test asks how many trains there are.
+#![tactic(auto)]
+
 ghost use Rattle.std.specs.Prelude.{◌≡◌, ◌+◌, ◌-◌, ◌*◌, ◌^◌, ◌≤◌, ◌<◌, length, drop};
 ghost use Rattle.rules.specs.Lists.{each};
 ghost use Rattle.cut.specs.Cut.{full_of, outside_of, outs, carried, passed, Room, fitting, Wrote};

@@ -1,5 +1,7 @@
 // The planning desk's calls: C functions on numbers and byte slices. Nothing is kept between calls.
 // A call is lent memory for what it fills: rows, weights and text; docs/FORMATS.md has their images.
+#![tactic(auto)]
+
 ghost use Rattle.std.specs.Prelude.{◌≡◌, replicate};
 ghost use Rattle.laying.specs.Steps.{Begins};
 ghost use Rattle.desk.specs.Answers.{SingleGives, RunGives, ListingGives, FiguresGives, PlainGives, PartGives, FieldGives};

@@ -1,4 +1,6 @@
 // The passes of one minute: for each element the trains in order, for all elements the way out last.
+#![tactic(auto)]
+
 ghost use Rattle.std.specs.Prelude.{◌≡◌, ◌≤◌, ◌<◌, length, take, get_or};
 ghost use Rattle.rows.specs.Rows.{rows_of};
 ghost use Rattle.weigh.specs.Weigh.{Small};

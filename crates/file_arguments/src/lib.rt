@@ -1,4 +1,6 @@
 // The arguments of the calls, judged after the files: a choice (15), a train (16) and a stop minute (17).
+#![tactic(auto)]
+
 ghost use Rattle.std.specs.Prelude.{◌≡◌, ◌-◌, ◌/◌, length};
 ghost use Rattle.file_lookup.specs.Answers.{files_of};
 ghost use Rattle.file_arguments.specs.Arguments.{past_table, choice_wrong, for_single, for_train, for_stop};

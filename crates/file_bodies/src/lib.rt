@@ -1,5 +1,7 @@
 // What is sound in the body of a head's, a station's or a delay table's field, and how long each field's body is. A function answers the refusal's number, and
 // 0 where nothing is wrong. The bodies of tracks, couples and trains are judged by `file_tracks` and `file_trains`, by the definitions that stand here.
+#![tactic(auto)]
+
 ghost use Rattle.std.specs.Prelude.{◌≡◌, ◌≤◌, length};
 ghost use Rattle.file_bodies.specs.Bodies.{head_verdict, station_verdict, bad_pair, pairs_verdict, table_verdict, bad_length};
 

@@ -1,4 +1,6 @@
 // What a file is: bytes, words of two bytes, and fields of a tag, a length and a body. Every read is total.
+#![tactic(auto)]
+
 pub mod limits;
 pub mod refusals;
 

@@ -1,4 +1,6 @@
 // Reading an open file: up to its end, or as far as there is room. A read that fails is never taken for the end of a file.
+#![tactic(auto)]
+
 ghost use Rattle.std.specs.Prelude.{◌≡◌, ◌≤◌, length};
 ghost use Rattle.file_input.specs.Reads.{step_of, reading_of, Fitting, Holds};
 

@@ -1,4 +1,6 @@
 // The table of a train's type, and case and book together.
+#![tactic(auto)]
+
 ghost use Rattle.std.specs.Prelude.{◌≡◌, ◌+◌, ◌≤◌, ◌<◌, length};
 ghost use Rattle.rules.specs.Files as files;
 ghost use Rattle.file_fields.specs.Fields.{body_at};

@@ -1,4 +1,6 @@
 // The reader of case and book files.
+#![tactic(auto)]
+
 ghost use Rattle.std.specs.Prelude.{◌≡◌, false, ◌+◌, ◌*◌, ◌≤◌, ◌<◌, length};
 ghost use Rattle.file_bodies.specs.Bodies.{bad_length};
 ghost use Rattle.file_reader.specs.Reading.{out_of_place, too_many, frame_verdict, body_verdict, field_verdict, counted, newer, after, next, field_of, stopped, counts_seen, at_end, reading};

@@ -1,4 +1,6 @@
 // What is sound in the body of a track's or a couple's field. A function answers the refusal's number, and 0 where nothing is wrong.
+#![tactic(auto)]
+
 ghost use Rattle.std.specs.Prelude.{◌≡◌, ◌*◌, ◌≤◌, length};
 ghost use Rattle.file_bodies.specs.Bodies.{ends, joined, track_verdict, alike, in_couple, taken, couple_verdict};
 

@@ -1,4 +1,6 @@
 // What is sound in the body of a train's field: its path, then its times. A function answers the refusal's number, and 0 where nothing is wrong.
+#![tactic(auto)]
+
 ghost use Rattle.std.specs.Prelude.{◌≡◌, ◌≤◌, length};
 ghost use Rattle.file_bodies.specs.Bodies.{repeated, bad_stop, bad_time, train_verdict, times_verdict};
 

@@ -1,5 +1,7 @@
 // The field viewer of the planning desk: it holds a file's bytes and its place and gives one field after another. It judges no
 // tag and no length. The functions over the struct are thin; `nth` takes plain parameters and serves every other caller.
+#![tactic(auto)]
+
 ghost use Rattle.std.specs.Prelude.{◌≡◌};
 ghost use Rattle.rules.specs.Viewer.{viewed, next_place};
 ghost use Rattle.file_fields.specs.Fields.{field_of};

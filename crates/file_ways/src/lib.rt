@@ -1,4 +1,6 @@
 // The tables of the trains' ways: for each train and element which comes next and how long it stays there, filled from the bytes of accepted files.
+#![tactic(auto)]
+
 ghost use Rattle.std.specs.Prelude.{◌≡◌, ◌++◌, ◌+◌, ◌-◌, ◌≤◌, length, set, replicate};
 ghost use Rattle.rules.specs.Files.{word, byte, leads};
 ghost use Rattle.rules.specs.Turns.{track_from};

@@ -1,4 +1,6 @@
 // The joint run on rows of two words: minutes and the run to a stop minute, with the weights that arrive.
+#![tactic(auto)]
+
 ghost use Rattle.std.specs.Prelude.{◌≡◌, ◌+◌, ◌*◌, ◌≤◌, ◌<◌, length, take, get_or, replicate};
 ghost use Rattle.rows.specs.Rows.{rows_of};
 ghost use Rattle.weigh.specs.Weigh.{Small};

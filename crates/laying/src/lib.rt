@@ -1,4 +1,6 @@
 // A run laid into lent memory: the joint run after the files and the arguments, its rows and its weights as bytes; and what a call answers.
+#![tactic(auto)]
+
 ghost use Rattle.std.specs.Prelude.{◌≡◌, [], ◌≤◌, length, replicate};
 ghost use Rattle.rules.specs.Refusals.Result.{answer};
 ghost use Rattle.rules.specs.Files as rulesFiles;

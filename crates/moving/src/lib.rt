@@ -1,4 +1,6 @@
 // How a train of the single run is let in, on words: where each train is, when it is due, when it arrived, and what it blocks.
+#![tactic(auto)]
+
 ghost use Rattle.std.specs.Prelude.{◌≡◌, ◌≤◌, ◌<◌};
 ghost use Rattle.moving.specs.Words.{Small, holding, crowd, across, lets, left_in, stood_in, arrived_in, entered_in};
 

@@ -1,4 +1,6 @@
 // The first list: one row per train and delay, written from the tables.
+#![tactic(auto)]
+
 ghost use Rattle.std.specs.Prelude.{◌≡◌, map, ◌+◌, ◌≤◌, ◌<◌, length, get_or};
 ghost use Rattle.rules.specs.Lists.{below};
 ghost use Rattle.theory_lists.specs.Writes.{Put};

@@ -1,5 +1,7 @@
 // The figures of one train, from the weights that have arrived: punctuality for a limit, three shares, and the lateness as sum and weight.
 // Weights are words: that of train k in minute t stands at k * 720 + t.
+#![tactic(auto)]
+
 ghost use Rattle.std.specs.Prelude.{◌≡◌, List, ◌+◌, ◌*◌, ◌≤◌, ◌<◌};
 ghost use Rattle.rules.specs.Files.{Case};
 ghost use Rattle.rules.specs.Turns.{Arrival};

@@ -1,5 +1,7 @@
 // The image of weights in lent bytes, the highest byte of a number first; weights that are added to those that stand there. The image of rows is made by
 // `out_rows`, by the definitions that stand here.
+#![tactic(auto)]
+
 ghost use Rattle.std.specs.Prelude.{◌≡◌, [], ℕ, ◌+◌, ◌%◌, ◌≤◌, ◌<◌, length, take, drop};
 ghost use Rattle.std.proofs.lemmas.List.Edits.{sets};
 ghost use Rattle.rules.specs.Calls.{bytes, filled, image_by};

@@ -1,5 +1,7 @@
 // The listing's text: decimal numbers, lines, trains, and the line of a refusal.
 // Where the text is too short, what does not fit is left out, and the place after it is the text's length.
+#![tactic(auto)]
+
 ghost use Rattle.std.specs.Prelude.{◌≡◌, [], ◌∷◌, ◌++◌, ◌+◌, ◌-◌, ◌*◌, ◌^◌, ◌≤◌, ◌<◌, length, get_or};
 ghost use Rattle.rules.specs.Listing.{decimal, minute_line, refused_line};
 ghost use Rattle.rules.specs.Calls.{filled};

@@ -1,4 +1,6 @@
 // The pass of one train for one element on rows of two words: each asker is served in its row, and what enters is put at the end.
+#![tactic(auto)]
+
 ghost use Rattle.std.specs.Prelude.{◌≡◌, false, ◌*◌, ◌/◌, ◌≤◌, ◌<◌, length};
 ghost use Rattle.rules.specs.Lists.{each};
 ghost use Rattle.theory_lists.specs.Every.{Every};

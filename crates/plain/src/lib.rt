@@ -1,4 +1,6 @@
 // Every choice by itself: its single run to a stop minute, and its weight added to the minute in which each train arrives.
+#![tactic(auto)]
+
 ghost use Rattle.std.specs.Prelude.{◌≡◌, ◌-◌, ◌<◌, ◌≤◌, length, take, slice_index};
 ghost use Rattle.rules.specs.Lists.{fold};
 ghost use Rattle.theory_plain.specs.Numbered.{times, indices};

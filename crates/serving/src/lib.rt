@@ -1,5 +1,7 @@
 // A row that asks is served: its held pieces are written as rows in its place, and those that enter are put to the others. The definitions of a whole pass
 // stand here too; `passing` runs it.
+#![tactic(auto)]
+
 ghost use Rattle.std.specs.Prelude.{◌≡◌, ◌*◌, ◌/◌, ◌≤◌, length, get_or};
 ghost use Rattle.cut.specs.Cut.{cut_by, Room, fitting, Wrote, held_of, entering_of};
 ghost use Rattle.rows.specs.Rows.{row, words, held_rows};

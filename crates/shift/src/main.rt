@@ -1,6 +1,8 @@
 // Prints the listing of the case on standard input, with the book from the file `types.book` of the working directory; or the line of its refusal.
 // It hands on at most the first 4,096 bytes of each file. Where one of them can't be read to its end, or so far, it prints nothing but a line on
 // standard error that names it.
+#![tactic(auto)]
+
 ghost use Rattle.std.specs.Prelude.{◌≡◌, length};
 ghost use Rattle.file_input.specs.Reads.{Holds};
 ghost use Rattle.shift.specs.Shift.{Prints};

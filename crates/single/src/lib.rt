@@ -1,4 +1,6 @@
 // The single run of one choice of delays on words, from one turn in which a train can be let in to the next.
+#![tactic(auto)]
+
 ghost use Rattle.std.specs.Prelude.{◌≡◌, ◌+◌, ◌*◌, ◌<◌, get_or};
 ghost use Rattle.rules.specs.Lists.{fold, below};
 ghost use Rattle.moving.specs.Words.{ran_in, served_at};

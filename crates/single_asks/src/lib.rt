@@ -1,4 +1,6 @@
 // When a train of the single run is to be served next: the first turn in which it asks for its next element, or, where it is held, in which a block has ended.
+#![tactic(auto)]
+
 ghost use Rattle.std.specs.Prelude.{◌≡◌, ◌/◌, ◌%◌, ◌<◌, set};
 ghost use Rattle.moving.specs.Words.{Small, order_in, freed_in, reopened_in};
 ghost use Rattle.single_laws.specs.Asks.{FitsOf, never, not_before, ask_in, held_in};

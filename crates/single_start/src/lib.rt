@@ -1,4 +1,6 @@
 // The single run of one choice of delays begins: what the run before it left is cleared, and every train waits outside with its delay.
+#![tactic(auto)]
+
 ghost use Rattle.std.specs.Prelude.{◌≡◌, true, ℕ, ◌+◌, ◌<◌, length, get_or, replicate};
 ghost use Rattle.moving.specs.Words.{Small, waits_in, start_in};
 ghost use Rattle.single_laws.specs.Plan.{Planned};

@@ -1,4 +1,6 @@
 // One turn of the single run: its train is let in or held, and who waited for what it left is told.
+#![tactic(auto)]
+
 ghost use Rattle.std.specs.Prelude.{◌≡◌, true, ◌||◌, ◌+◌, ◌/◌, ◌%◌, ◌≤◌, ◌<◌, length, eqb};
 ghost use Rattle.moving.specs.Words.{trains_in, lets, served_at};
 ghost use Rattle.single_laws.specs.Plan.{Planned};

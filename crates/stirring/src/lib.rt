@@ -1,4 +1,6 @@
 // One pass of one train for one element, where a row of the pair was stirred: the rows, the weights that arrive, and what is noted of who waits.
+#![tactic(auto)]
+
 ghost use Rattle.std.specs.Prelude.{◌≡◌, true, false, ◌+◌, ◌*◌, ◌≤◌, ◌<◌, length, take, get_or, set};
 ghost use Rattle.theory_lists.specs.Every.{Every};
 ghost use Rattle.rows.specs.Rows.{rows_of, rows_in};

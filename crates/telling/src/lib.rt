@@ -1,4 +1,6 @@
 // What is told of an answered run: the listing's text and the figures, from the words that it stands in.
+#![tactic(auto)]
+
 ghost use Rattle.std.specs.Prelude.{◌≡◌, ◌≤◌, length};
 ghost use Rattle.rules.specs.Answers.{punctuality_number, punctuality_value};
 ghost use Rattle.out_figures.specs.Answers as told;

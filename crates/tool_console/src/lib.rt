@@ -1,4 +1,6 @@
 // What the programs that read files from standard input share: the next files of the input, and words of a line.
+#![tactic(auto)]
+
 ghost use Rattle.std.specs.Prelude.{◌≡◌};
 ghost use Rattle.io.specs.Counts.{IsPrefixLen};
 ghost use Rattle.tool_console.specs.Next.{is_full, is_empty};

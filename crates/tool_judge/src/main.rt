@@ -1,6 +1,8 @@
 // Reads pairs of files from standard input and prints what the reader says of each, a line a pair: `accepted`, or the
 // refusal's number, file and place. A pair is the case's length (2 bytes), the book's (2), the case and the book. An input that can't be read
 // to its end, or that ends within a pair, is said so on standard error, and that pair is not judged.
+#![tactic(auto)]
+
 use file_lookup::Files;
 
 fn print_refusal(number: usize, file: usize, place: usize) -> bool {

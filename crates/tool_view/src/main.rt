@@ -1,6 +1,8 @@
 // Reads files from standard input and prints what a field viewer gives of each, a line a field: its place, tag and length; then `ended`
 // or `refused 1` with the place at which the viewer stays. A file comes as its length (2 bytes) and its bytes. An input that can't be read to
 // its end, or that ends within a file, is said so on standard error, and that file is not viewed.
+#![tactic(auto)]
+
 use file_fields::{Field, refusals};
 use file_viewer::Viewing;
 

@@ -1,4 +1,6 @@
 // What comes of one pass of one train for one element: the weights that arrive, and what is noted of who waits.
+#![tactic(auto)]
+
 ghost use Rattle.std.specs.Prelude.{◌≡◌, ◌/◌, ◌≤◌, ◌<◌, length, take};
 ghost use Rattle.weigh.specs.Weigh.{Small};
 ghost use Rattle.waiting.specs.Notes.{Flagged};

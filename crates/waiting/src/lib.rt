@@ -1,4 +1,6 @@
 // What a run notes beside its rows: what stirred the pairs of train and element, and which of them have rows that wait.
+#![tactic(auto)]
+
 ghost use Rattle.std.specs.Prelude.{◌≡◌, ◌<◌, length};
 ghost use Rattle.asking.specs.Ask.{Mutual};
 ghost use Rattle.waiting.specs.Notes.{told_of, told_all, told_across, told_left, fresh_of};

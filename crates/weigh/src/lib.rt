@@ -1,4 +1,6 @@
 // The weights of packed covers, and raising the weights that have arrived.
+#![tactic(auto)]
+
 ghost use Rattle.std.specs.Prelude.{◌≡◌, ◌+◌, ◌*◌, ◌%◌, ◌^◌, ◌<◌, ◌≤◌, length, take, slice_index, slice_set};
 ghost use Rattle.weigh.specs.Weigh.{set_weight, weight_of, brought_of, Small};
 

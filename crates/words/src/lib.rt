@@ -1,4 +1,6 @@
 // Words of a slice, read and written at any index: past the end a read gives 0 and a write does nothing.
+#![tactic(auto)]
+
 ghost use Rattle.std.specs.Prelude.{◌≡◌, get_or, set};
 
 // The word at i, and 0 past the end.

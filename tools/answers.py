@@ -1,0 +1,249 @@
+#!/usr/bin/env python3
+"""Turns each proof of a crate that walks the code by hand, proofs/F/Proof.antt, into Invariants.antt and Answers.antt.
+
+usage: rt check --generated NAMES --old-names     in the crate's folder, which lists old and new names
+       python3 tools/answers.py NAMES/names.json CRATE [F..]     at the top of the repository
+
+Answers that only search go, since the check searches by itself. Paths '.before' are followed on the list's places. What it leaves is printed.
+"""
+import json
+import os
+import re
+import sys
+
+IDENT = r"[^\s(){}.;,@\"«»]+"
+
+
+def canon(name):
+    name = re.sub(r"^(overflow[-_])", "", name)
+    return name.replace("_", "-")
+
+
+class Fn:
+    def __init__(self, crate, name, table):
+        self.crate, self.name, self.table = crate, name, table
+        self.places = {p[0]: p for p in table["places"]}
+        self.goal, self.at = {}, {}
+        for k, (old, new) in enumerate(table["needs"]):
+            self.goal.setdefault(canon(old), new)
+            self.at.setdefault(canon(old), table["asked_at"][k][0])
+        self.loops = {old: new for (old, new), _ in table["loops"]}
+        self.loop_vars = {old: names for (old, _), names in table["loops"]}
+        self.said = []
+
+    def say(self, text):
+        self.said.append(f"{self.crate}/{self.name}: {text}")
+
+    def path(self, place, fields, head="c"):
+        """The new text of head.FIELDS, begun at a place; or the place where only 'before' stands."""
+        k = 0
+        while k < len(fields) and fields[k] == "before":
+            up = self.places[place][1] if place in self.places else None
+            if up is None:
+                self.say(f"no place above {place} in {'.'.join(fields)}")
+                return None, ".".join([head] + fields)
+            place, k = up, k + 1
+        rest = fields[k:]
+        if not rest:
+            return place, head
+        one = rest[0]
+        if one in ("args", "requires", "lifetimes", "ranges", "well_formed", "auto", "utf8"):
+            return None, ".".join([head] + rest)
+        if one in ("well-formed",):
+            return None, ".".join([head, "well_formed"] + rest[1:])
+        # the step of this place, or else the nearest above it that has the name
+        at = place
+        hops = 0
+        while at is not None and canon(self.places[at][2][0]) != canon(one) and not re.fullmatch(re.escape(canon(one)) + r"\d+", canon(self.places[at][2][0])):
+            at, hops = self.places[at][1], hops + 1
+        if at is None:
+            self.say(f"no step {one} at {place} ({self.places[place][2]}) for {'.'.join(fields)}")
+            return None, ".".join([head] + rest)
+        if hops:
+            self.say(f"step {one} found {hops} above {place} ({self.places[place][2]}), for {'.'.join(fields)}")
+        p = self.places[at]
+        tail = rest[1:]
+        if tail and tail[0] == "new" and p[3] and len(tail) > 1 and re.fullmatch(r"\d", tail[1]):
+            n, j = 0, 1
+            names = self.table["params"].get(p[3], [])
+            while j < len(tail) and tail[j] == "1":
+                n, j = n + 1, j + 1
+            if j < len(tail) and tail[j] == "0":
+                j += 1
+            if n < len(names):
+                tail = ["new", names[n]] + tail[j:]
+            else:
+                self.say(f"parameter {n} of {p[3]} in {'.'.join(fields)}")
+        return None, ".".join([head, p[2][1]] + tail)
+
+    def turn(self, text, place):
+        """The answer's text with each path turned, and the names of bare places gone."""
+        alias = {"c": place}
+        chain = re.compile(r"(?<![\w.′'₀-₉-])(" + IDENT + r")((?:\.(?:" + IDENT + r"))*)")
+        out, at = "", 0
+        let = re.compile(r"let (" + IDENT + r") = (c|" + IDENT + r")((?:\.before)*) in[ \n]*")
+        while at < len(text):
+            m = let.match(text, at)
+            if m and m[2] in alias:
+                fields = m[3].split(".")[1:]
+                where, _ = self.path(alias[m[2]], fields)
+                if where is not None:
+                    alias[m[1]] = where
+                    at = m.end()
+                    # keep the indentation of what follows
+                    continue
+            m = chain.match(text, at)
+            if m and (at == 0 or not re.match(r"[\w.′'₀-₉-]", text[at - 1])):
+                if m[1] in alias:
+                    fields = [f for f in m[2].split(".") if f]
+                    where, new = self.path(alias[m[1]], fields)
+                    out += new
+                else:
+                    out += m[0]
+                at = m.end()
+                continue
+            out += text[at]
+            at += 1
+        return out
+
+
+def blocks(text):
+    return [b for b in re.split(r"\n\n+", text.strip("\n")) if b.strip()]
+
+
+def turn_invariant(fn, block, said):
+    m = re.match(r"abbrev (?:pub )?(" + IDENT + r") : tie\.(" + IDENT + r")\n", block)
+    kind, loop = re.match(r"(invariant|decreases)-(.*)", m[2]).groups()
+    body = block[m.end():]
+    unfold = ""
+    mm = re.match(r"(unfolding [^\n]*\n)", body)
+    if mm:
+        unfold, body = mm[1], body[mm.end():]
+    m2 = re.match(re.escape(m[1]) + r"((?: [^\s=]+)*) =", body)
+    args, rest = m2[1].split(), body[m2.end():]
+    names = fn.loop_vars.get(loop)
+    new = fn.loops.get(loop)
+    if new is None:
+        keys = [k for k in fn.loops if canon(k) == canon(loop)]
+        if keys:
+            new, names = fn.loops[keys[0]], fn.loop_vars[keys[0]]
+    if new is None:
+        fn.say(f"no loop {loop}")
+        new, names = loop, []
+    for a in args:
+        if a in ("_",):
+            continue
+        bare = a.strip("«»")
+        if re.search(r"₀$", bare):
+            to = "l.initial." + re.sub(r"₀$", "", bare)
+        else:
+            to = "l." + bare
+        base = re.sub(r"[₀-₉]$", "", bare)
+        if base not in names and bare not in names:
+            fn.say(f"variable {a} of {loop}: {names}")
+        rest = re.sub(r"(?<![\w.′'₀-₉«-])" + re.escape(a) + r"(?![\w′'₀-₉»-])", to, rest)
+    return f"abbrev pub {kind}-{new} : goal.{kind}-{new}\n{unfold}{kind}-{new} l ={rest}"
+
+
+def convert(crate, name, table, path):
+    fn = Fn(crate, name, table)
+    text = open(path, encoding="utf-8").read()
+    bs = blocks(text)
+    head = bs[0].split("\n")
+    comments = [l for l in head if l.startswith("--")]
+    uses = []
+    for b in bs:
+        for l in b.split("\n"):
+            if l.startswith("use ") and ".Tie as " not in l and ".Statement." not in l:
+                uses.append(l)
+    rest = []
+    for b in bs:
+        lines = [l for l in b.split("\n") if not (l.startswith("use "))]
+        if b is bs[0]:
+            lines = [l for l in lines if not l.startswith("--")]
+        if any(l.strip() for l in lines):
+            rest.append("\n".join(lines))
+    invariants, answers, helpers = [], [], []
+    module = "Rattle.%s.proofs.%s" % (crate, name.replace("/", "."))
+    for b in rest:
+        if re.match(r"abbrev (?:pub )?" + IDENT + r" : tie\.(invariant|decreases)-", b):
+            invariants.append(turn_invariant(fn, b, fn.said))
+            continue
+        if re.search(r"^ *tie\.close|= *tie\.close|tie\.close", b):
+            continue
+        m = re.match(r"((?:--[^\n]*\n)*)(" + IDENT + r") : tie\.Need-(" + IDENT + r")([^\n]*)\n", b)
+        if not m:
+            helpers.append(b)
+            continue
+        local, need = m[2], canon(m[3])
+        if need not in fn.goal:
+            fn.say(f"no goal {need}: {sorted(fn.goal)}")
+            continue
+        new = fn.goal[need]
+        body = b[m.end():]
+        unfold = ""
+        mm = re.match(r"((?:unfolding [^\n]*\n)*)", body)
+        unfold, body = mm[1], body[mm.end():]
+        m2 = re.match(re.escape(local) + r"((?: [^\s=]+)*) =[ \n]*", body)
+        if not m2:
+            fn.say(f"answer {local} has another form")
+            helpers.append(b)
+            continue
+        args = m2[1].split()
+        term = body[m2.end():]
+        if re.fullmatch(r"\s*search rules\s*", term):
+            continue
+        if not args or args[0] != "c":
+            fn.say(f"answer {local} takes {args}")
+        term = fn.turn(term, fn.at[need])
+        gap = "\n    " if "\n" in term or len(term) > 120 else " "
+        answers.append(f"{m[1]}pub {new} : goal.{new}\n{unfold}{new} c ={gap}{term}")
+    folder = os.path.dirname(path)
+    if invariants:
+        ref = "\n".join(invariants)
+        with open(os.path.join(folder, "Invariants.antt"), "w", encoding="utf-8") as f:
+            f.write("\n".join(comments + needed(uses, ref) + [f"use {module}.Given as goal"]) + "\n\n" + "\n\n".join(invariants) + "\n")
+    if answers or helpers:
+        ref = "\n".join(answers + helpers)
+        with open(os.path.join(folder, "Answers.antt"), "w", encoding="utf-8") as f:
+            f.write("\n".join(comments + needed(uses, ref) + [f"use {module}.Goals as goal"]) + "\n\n" + "\n\n".join(helpers + answers) + "\n")
+    os.remove(path)
+    return fn.said
+
+
+def needed(uses, text):
+    """The use lines with the names that the text has."""
+    words = set(re.findall(r"[^\s(){}.;,@\"«»]+", text))
+    out = []
+    for u in uses:
+        m = re.match(r"use (\S+?)\.\{(.*)\}$", u)
+        if not m:
+            out.append(u)
+            continue
+        keep = []
+        for n in re.split(r", *", m[2]):
+            base = n.split(" as ")[-1]
+            parts = [p for p in base.split("◌") if p]
+            if base in words or (("◌" in base) and all(p in words for p in parts)):
+                keep.append(n)
+        if keep:
+            out.append(f"use {m[1]}.{{{', '.join(keep)}}}")
+    return out
+
+
+def main():
+    data = json.load(open(sys.argv[1], encoding="utf-8"))
+    crate, only = sys.argv[2], sys.argv[3:]
+    for key, table in data.items():
+        m = re.fullmatch(rf"Rattle-{crate}-proofs\.(.+)\.Lts", key)
+        if not m or not isinstance(table, dict):
+            continue
+        name = m[1].replace(".", "/")
+        path = f"crates/{crate}/proofs/{name}/Proof.antt"
+        if not os.path.exists(path) or (only and name not in only):
+            continue
+        for s in convert(crate, name, table, path):
+            print(s)
+
+
+main()
