@@ -4,7 +4,7 @@
 use Rattle.std.specs.Prelude.{◌≡◌, refl, Bool, true, false, not, ◌&&◌, List, [], map, ℕ, ◌≤◌, ◌<◌, length, get_or, eqb}
 use Rattle.std.proofs.Common.{sym, ap, ◌∙◌, subst, le_trans, le_of_eq, le_refl, arith}
 use Rattle.std.proofs.lemmas.List.{length-map}
-use Rattle.rules.specs.Lists.{one, keep, count, below, has}
+use Rattle.rules.specs.Lists.{keep, count, below, has}
 use Rattle.rules.specs.Files.{Case}
 use Rattle.rules.specs.Turns.{Place, same, Mark, elements, capacity, ended, State}
 use Rattle.rules.specs.Turns.Place.{outside, station, track, gone}
