@@ -130,18 +130,15 @@ def turn_invariant(fn, block, said):
     if new is None:
         fn.say(f"no loop {loop}")
         new, names = loop, []
-    for a in args:
-        if a in ("_",):
-            continue
-        bare = a.strip("«»")
-        if re.search(r"₀$", bare):
-            to = "l.initial." + re.sub(r"₀$", "", bare)
-        else:
-            to = "l." + bare
-        base = re.sub(r"[₀-₉]$", "", bare)
-        if base not in names and bare not in names:
-            fn.say(f"variable {a} of {loop}: {names}")
-        rest = re.sub(r"(?<![\w.′'₀-₉«-])" + re.escape(a) + r"(?![\w′'₀-₉»-])", to, rest)
+    # the variables in order, those that change as they were at first, and then those that change as they are now
+    changed = next((c for (o, n), c in zip([l[0] for l in fn.table["loops"]], fn.table["changed"]) if n == new), [])
+    now = [n for n, c in zip(names, changed) if c]
+    fields = [("l.initial." if c else "l.") + n for n, c in zip(names, changed)] + ["l." + n for n in now]
+    if len(fields) != len(args):
+        fn.say(f"{len(args)} variables of {loop}: {names}")
+        fields = ["l.initial." + a.strip("«»₀") if a.strip("«»").endswith("₀") else "l." + a.strip("«»") for a in args]
+    turned = dict(zip(args, fields))
+    rest = re.sub(r"(?<![\w.′'₀-₉«»-])(" + "|".join(sorted(map(re.escape, turned), key=len, reverse=True)) + r")(?![\w′'₀-₉»-])", lambda m: turned[m[1]], rest)
     return f"abbrev pub {kind}-{new} : goal.{kind}-{new}\n{unfold}{kind}-{new} l ={rest}"
 
 

@@ -10,7 +10,7 @@ ghost use Rattle.asking.specs.Ask.{due_of, asks_of, reach_of, stirs_of, cap_of, 
 
 // What a pass is for: minute, element and train; the element's capacity and its partner, 0 for none; the state of what enters, that of the block it leaves, and whether it
 // leaves one.
-#[derive(Drop)]
+#[derive(Clone, Copy)]
 pub struct Job {
     pub minute: u64,
     pub place: u64,
@@ -172,7 +172,7 @@ pub fn assign(tables: &[u64], t: u64, e: u64, k: u64, s: u64) -> Job
 }
 
 // How many covers are met: the partner's, and all.
-#[derive(Drop)]
+#[derive(Clone, Copy)]
 pub struct Count {
     pub partner: usize,
     pub all: usize,

@@ -12,7 +12,7 @@ const LOW: u64 = 0x7f7f_7f7f_7f7f_7f7f;
 const HIGH: u64 = 0x8080_8080_8080_8080;
 
 // How many held and how many entering pieces are written.
-#[derive(Drop)]
+#[derive(Clone, Copy)]
 pub struct Pieces {
     pub held: usize,
     pub entering: usize,

@@ -14,7 +14,7 @@ use telling::TrainFigures;
 
 // What the field viewer gives at a place: `refusal` is 1 if a field runs past the end, `given` is 1 if there is a whole one.
 #[repr(C)]
-#[derive(Drop)]
+#[derive(Clone, Copy)]
 pub struct Viewed {
     pub refusal: u16,
     pub given: u16,

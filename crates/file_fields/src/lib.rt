@@ -10,7 +10,7 @@ ghost use Rattle.rules.specs.Viewer.{viewed};
 ghost use Rattle.file_fields.specs.Fields.{field_of};
 
 // What stands at a place of a file: a whole field with its tag, its body's length and where it ends; the file's end; or refusal 1.
-#[derive(Drop)]
+#[derive(Clone, Copy)]
 pub enum Field {
     Whole { tag: usize, size: usize, end: usize },
     Ended,

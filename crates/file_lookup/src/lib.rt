@@ -11,7 +11,7 @@ use file_fields::{Field, limits, refusals};
 use file_reader::Reading;
 
 // How large an accepted case is.
-#[derive(Drop)]
+#[derive(Clone, Copy)]
 pub struct Sizes {
     pub stations: usize,
     pub tracks: usize,
@@ -20,7 +20,7 @@ pub struct Sizes {
 }
 
 // Case and book: accepted, or refused with a number, the file (0 case, 1 book) and a place.
-#[derive(Drop)]
+#[derive(Clone, Copy)]
 pub enum Files {
     Sound(Sizes),
     Unsound(usize, usize, usize),

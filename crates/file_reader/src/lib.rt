@@ -11,7 +11,7 @@ ghost use Rattle.file_reader.specs.Facts.{Within};
 use file_fields::{limits, refusals};
 
 // What has been seen of a file up to the next field's tag: its offset, the last tag, how many fields of each tag, and the last table's type.
-#[derive(Drop)]
+#[derive(Clone, Copy)]
 pub struct Seen {
     pub at: usize,
     pub tag: usize,
@@ -25,7 +25,7 @@ pub struct Seen {
 }
 
 // How many fields of each kind an accepted file has.
-#[derive(Drop)]
+#[derive(Clone, Copy)]
 pub struct Counts {
     pub stations: usize,
     pub tracks: usize,
@@ -35,14 +35,14 @@ pub struct Counts {
 }
 
 // A field that is sound, with what has been seen after it, or the number of what is wrong with it.
-#[derive(Drop)]
+#[derive(Clone, Copy)]
 pub enum Judged {
     Sound(Seen),
     Unsound(usize),
 }
 
 // A refusal has a number and a place.
-#[derive(Drop)]
+#[derive(Clone, Copy)]
 pub enum Reading {
     Accepted(Counts),
     Refused(usize, usize),

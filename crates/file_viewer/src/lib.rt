@@ -16,14 +16,14 @@ pub struct Viewer<'a> {
 }
 
 // What a viewer gave, and the place at which it stood.
-#[derive(Drop)]
+#[derive(Clone, Copy)]
 pub struct Viewing {
     pub place: usize,
     pub field: Field,
 }
 
 // What a viewer gave, and the place at which it stands then.
-#[derive(Drop)]
+#[derive(Clone, Copy)]
 pub struct Given {
     pub field: Field,
     pub next: usize,

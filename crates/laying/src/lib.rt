@@ -13,7 +13,7 @@ use file_lookup::{Files, Sizes};
 
 // What the single run, the run and the listing answer; `refusal` is 0 if the call was answered.
 #[repr(C)]
-#[derive(Drop)]
+#[derive(Clone, Copy)]
 pub struct Answer {
     pub refusal: u16,
     pub file: u16,

@@ -11,7 +11,7 @@ ghost use Rattle.out_figures.specs.Sums.{on_time_weight, late_weight, lateness, 
 ghost use Rattle.out_figures.specs.Answers.{punctuality_answer, shares_answer, figures_answer, no_figures, Holds};
 
 // Never, always, or a share of the weight; refused where the call was.
-#[derive(Drop)]
+#[derive(Clone, Copy)]
 pub enum Punctuality {
     Refused,
     Never,
@@ -20,7 +20,7 @@ pub enum Punctuality {
 }
 
 // The shares of the weight that is on time, late, and not arrived by the last minute.
-#[derive(Drop)]
+#[derive(Clone, Copy)]
 pub struct Shares {
     pub on_time: f64,
     pub late: f64,
@@ -28,7 +28,7 @@ pub struct Shares {
 }
 
 // The figures of one train; the mean lateness of the arrived is `sum` by `weight`.
-#[derive(Drop)]
+#[derive(Clone, Copy)]
 pub struct Figures {
     pub punctuality: Punctuality,
     pub shares: Shares,

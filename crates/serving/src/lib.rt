@@ -9,7 +9,7 @@ ghost use Rattle.quiet.specs.Parts.{Sub};
 ghost use Rattle.serving.specs.Pass.{met_in, moved_of, Went, Two};
 
 // The place after the last word of the rows, how many covers have entered, and all that moved: the covers of the rows that were cut or entered.
-#[derive(Drop)]
+#[derive(Clone, Copy)]
 pub struct Ends {
     pub place: usize,
     pub entering: usize,

@@ -12,7 +12,7 @@ use out_figures::{Figures, Punctuality};
 
 // What the figures answer: all but the first three fields are 0 if the call was refused.
 #[repr(C)]
-#[derive(Drop)]
+#[derive(Clone, Copy)]
 pub struct TrainFigures {
     pub refusal: u16,
     pub file: u16,
