@@ -6,7 +6,6 @@ use Rattle.rules.specs.Refusals.{number, Refusal, nowhere, Result, refuse}
 use Rattle.rules.specs.Refusals.Fault.{too_short}
 use Rattle.rules.specs.Refusals.Result.{refused, answer}
 use Rattle.rules.specs.Files.{Case, files}
-use Rattle.rules.specs.Joint.{choices}
 use Rattle.rules.specs.Calls.{filled, weights_bytes}
 use Rattle.rules.specs.Plain.{Plain, plain_of, plain_run, part_run, LentWeights, weighed, weighing, plain_call, part_call}
 use Rattle.rules.specs.Promised.{PlainOutcome, PlainOutcome as outcome, refusal_of}

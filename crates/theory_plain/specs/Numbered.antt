@@ -8,7 +8,7 @@ use Rattle.std.proofs.Common.{ap₂, ◌∙◌, mul_assoc, mul-pos, mul-le-mul, 
 use mathlib.Core.List.{List, [], ◌∷◌, map}
 use Rattle.std.proofs.Math.Nat.{mul-add-div_right, mul-add-mod_self_right, div-eq_of_lt, pow-succ', pow-le-pow_right}
 use Rattle.std.proofs.Math.ListN.{length}
-use Rattle.rules.specs.Lists.{each, product, span, below}
+use Rattle.rules.specs.Lists.{product, span, below}
 use Rattle.rules.specs.Files.{most_trains, Case}
 use Rattle.rules.specs.Joint.{choices_in, choices, whole}
 use Rattle.rules.specs.Promised.{combinations}
