@@ -107,6 +107,51 @@ class Fn:
         return out
 
 
+def atom(text, at):
+    """The end of the bracketed or plain word that begins at a place, after spaces."""
+    while at < len(text) and text[at] in " \n":
+        at += 1
+    start = at
+    if at < len(text) and text[at] == "(":
+        depth = 0
+        while at < len(text):
+            depth += (text[at] == "(") - (text[at] == ")")
+            at += 1
+            if not depth:
+                break
+    else:
+        m = re.compile(r"[^\s(){};,]+").match(text, at)
+        at = m.end() if m else at
+    return start, at
+
+
+def by_cases(text, said):
+    """Each '⊎_elim (λ w. A) (λ w. B) c.if-X.branch' as an 'elim', with a mark for each numbered field of w."""
+    at = 0
+    while (at := text.find("⊎_elim", at)) >= 0:
+        end = at + len("⊎_elim")
+        parts = []
+        for _ in range(3):
+            start, end = atom(text, end)
+            parts.append(text[start:end])
+        one, two = (re.fullmatch(r"\(λ (\S+?)\.\s(.*)\)", q, re.S) for q in parts[:2])
+        step = re.fullmatch(r"\S*?\.if-(\S+)\.branch", parts[2])
+        if not (one and two and step):
+            said.append(f"cases by hand: {parts[2][:60]}")
+            at += 1
+            continue
+        arms = []
+        for side, m in (("then", one), ("else", two)):
+            v = re.escape(m[1])
+            body = re.sub(rf"(?<![\w.′'₀-₉-]){v}\.(\d+)\.(taken|left)(?![\w-])", lambda k: f"{m[1]}.field-{k[1]}." + {"taken": "true", "left": "false"}[k[2]], m[2])
+            body = re.sub(rf"(?<![\w.′'₀-₉-]){v}\.(\d+)(?![\w-])", lambda k: f"{m[1]}.field-{k[1]}", body)
+            arms.append(f"{side}-{step[1]} {m[1]} ↦ {by_cases(body, said)}")
+        new = f"elim {parts[2]} [\n      {arms[0]}\n      | {arms[1]} ]"
+        text = text[:at] + new + text[end:]
+        at += len(new)
+    return text
+
+
 def blocks(text):
     return [b for b in re.split(r"\n\n+", text.strip("\n")) if b.strip()]
 
@@ -192,7 +237,7 @@ def convert(crate, name, table, path):
             continue
         if not args or args[0] != "c":
             fn.say(f"answer {local} takes {args}")
-        term = fn.turn(term, fn.at[need])
+        term = by_cases(fn.turn(term, fn.at[need]), fn.said)
         gap = "\n    " if "\n" in term or len(term) > 120 else " "
         answers.append(f"{m[1]}pub {new} : goal.{new}\n{unfold}{new} c ={gap}{term}")
     folder = os.path.dirname(path)
@@ -203,9 +248,14 @@ def convert(crate, name, table, path):
     if answers or helpers:
         ref = "\n".join(answers + helpers)
         with open(os.path.join(folder, "Answers.antt"), "w", encoding="utf-8") as f:
-            f.write("\n".join(comments + needed(uses, ref) + [f"use {module}.Goals as goal"]) + "\n\n" + "\n\n".join(helpers + answers) + "\n")
+            f.write("\n".join(comments + needed(uses, ref) + [f"use {module}.Goals as goal"] + cases_of(module, ref)) + "\n\n" + "\n\n".join(helpers + answers) + "\n")
     os.remove(path)
     return fn.said
+
+
+def cases_of(module, text):
+    names = sorted(set(re.findall(r"(?<![\w-])((?:then|else)-\S+) \S+ ↦", text)))
+    return [f"use {module}.Goals.{{{', '.join(names)}}}"] if names else []
 
 
 def needed(uses, text):
