@@ -16,7 +16,7 @@ IDENT = r"[^\s(){}.;,@\"«»]+"
 
 def canon(name):
     name = re.sub(r"^(overflow[-_])", "", name)
-    return name.replace("_", "-")
+    return name.replace("_", "-").lower()
 
 
 class Fn:
