@@ -34,15 +34,12 @@ class Fn:
     def say(self, text):
         self.said.append(f"{self.crate}/{self.name}: {text}")
 
-    def path(self, place, fields, head="c"):
+    def path(self, place, fields, start, head="c"):
         """The new text of head.FIELDS, begun at a place; or the place where only 'before' stands."""
         k = 0
         while k < len(fields) and fields[k] == "before":
             up = self.places[place][1] if place in self.places else None
-            if up is None:
-                self.say(f"no place above {place} in {'.'.join(fields)}")
-                return None, ".".join([head] + fields)
-            place, k = up, k + 1
+            place, k = (place if up is None else up), k + 1
         rest = fields[k:]
         if not rest:
             return place, head
@@ -51,16 +48,19 @@ class Fn:
             return None, ".".join([head] + rest)
         if one in ("well-formed",):
             return None, ".".join([head, "well_formed"] + rest[1:])
-        # the step of this place, or else the nearest above it that has the name
-        at = place
-        hops = 0
-        while at is not None and canon(self.places[at][2][0]) != canon(one) and not re.fullmatch(re.escape(canon(one)) + r"\d+", canon(self.places[at][2][0])):
-            at, hops = self.places[at][1], hops + 1
-        if at is None:
+        # the step of this place, or else the nearest on the way to the start that has the name
+        want, chain, up = canon(one), [], start
+        while up is not None:
+            chain.append(up)
+            up = self.places[up][1]
+        where = chain.index(place) if place in chain else len(chain) - 1
+        named = [p for p in chain if re.fullmatch(re.escape(want) + r"\d*", canon(self.places[p][2][0])) or canon(self.places[p][2][1]) == want]
+        if not named:
             self.say(f"no step {one} at {place} ({self.places[place][2]}) for {'.'.join(fields)}")
             return None, ".".join([head] + rest)
-        if hops:
-            self.say(f"step {one} found {hops} above {place} ({self.places[place][2]}), for {'.'.join(fields)}")
+        at = min(named, key=lambda p: abs(chain.index(p) - where))
+        if at != place:
+            self.say(f"step {one}: {at} for {place}, in {'.'.join(fields)}")
         p = self.places[at]
         tail = rest[1:]
         if tail and tail[0] == "new" and p[3] and len(tail) > 1 and re.fullmatch(r"\d", tail[1]):
@@ -86,7 +86,7 @@ class Fn:
             m = let.match(text, at)
             if m and m[2] in alias:
                 fields = m[3].split(".")[1:]
-                where, _ = self.path(alias[m[2]], fields)
+                where, _ = self.path(alias[m[2]], fields, place)
                 if where is not None:
                     alias[m[1]] = where
                     at = m.end()
@@ -96,7 +96,7 @@ class Fn:
             if m and (at == 0 or not re.match(r"[\w.′'₀-₉-]", text[at - 1])):
                 if m[1] in alias:
                     fields = [f for f in m[2].split(".") if f]
-                    where, new = self.path(alias[m[1]], fields)
+                    where, new = self.path(alias[m[1]], fields, place)
                     out += new
                 else:
                     out += m[0]
@@ -185,6 +185,42 @@ def turn_invariant(fn, block, said):
     turned = dict(zip(args, fields))
     rest = re.sub(r"(?<![\w.′'₀-₉«»-])(" + "|".join(sorted(map(re.escape, turned), key=len, reverse=True)) + r")(?![\w′'₀-₉»-])", lambda m: turned[m[1]], rest)
     return f"abbrev pub {kind}-{new} : goal.{kind}-{new}\n{unfold}{kind}-{new} l ={rest}"
+
+
+def convert_cycle(crate, name, tables, path):
+    """The answers of a cycle of calls; its measures and invariants are written by hand."""
+    text = open(path, encoding="utf-8").read()
+    bs = blocks(text)
+    uses = [l for b in bs for l in b.split("\n") if l.startswith("use ")]
+    lts = {m[2]: m[1] for u in uses for m in [re.match(r"use \S+\.Lts-(\S+) as (\S+)", u)] if m}
+    fns = {alias: Fn(crate, f"{name}/{f}", tables[f]) for alias, f in lts.items()}
+    answers, said = [], []
+    for b in bs:
+        m = re.match(r"((?:--[^\n]*\n)*)(" + IDENT + r") : \(t : ℕ\) → (" + IDENT + r")\.Need-(" + IDENT + r")([^\n]*)\n", b)
+        if not m:
+            continue
+        fn, need = fns[m[3]], canon(m[4])
+        if need not in fn.goal:
+            fn.say(f"no goal {need}: {sorted(fn.goal)}")
+            continue
+        body = b[m.end():]
+        mm = re.match(r"((?:unfolding [^\n]*\n)*)", body)
+        unfold, body = mm[1], body[mm.end():]
+        m2 = re.match(re.escape(m[2]) + r"((?: [^\s=]+)*) =[ \n]*", body)
+        term = body[m2.end():]
+        if re.fullmatch(r"\s*search rules\s*", term):
+            continue
+        term = by_cases(fn.turn(term, fn.at[need]), fn.said)
+        new = fn.table["stem"] + fn.goal[need]
+        gap = "\n    " if "\n" in term or len(term) > 120 else " "
+        answers.append(f"{m[1]}pub {new} : goal.{new}\n{unfold}{new} t c ={gap}{term}")
+    ref = "\n".join(answers)
+    keep = [u for u in uses if f".proofs.{name}." not in u and ".Reads as" not in u and ".Kinds as" not in u]
+    folder = os.path.dirname(path)
+    with open(os.path.join(folder, "Answers.antt"), "w", encoding="utf-8") as f:
+        f.write("\n".join([l for l in bs[0].split("\n") if l.startswith("--")] + needed(keep, ref) + [f"use Rattle.{crate}.proofs.{name}.Goals as goal"]) + "\n\n" + "\n\n".join(answers) + "\n")
+    os.remove(path)
+    return [s for fn in fns.values() for s in fn.said]
 
 
 def convert(crate, name, table, path):
@@ -281,6 +317,14 @@ def needed(uses, text):
 def main():
     data = json.load(open(sys.argv[1], encoding="utf-8"))
     crate, only = sys.argv[2], sys.argv[3:]
+    cycles = {}
+    for key, table in data.items():
+        if m := re.fullmatch(rf"Rattle-{crate}-proofs\.(\+\S+)\.Lts-(\S+)", key):
+            cycles.setdefault(m[1], {})[m[2]] = table
+    for name, tables in cycles.items():
+        path = f"crates/{crate}/proofs/{name}/Proof.antt"
+        if os.path.exists(path) and (not only or name in only):
+            print("\n".join(convert_cycle(crate, name, tables, path)))
     for key, table in data.items():
         m = re.fullmatch(rf"Rattle-{crate}-proofs\.(.+)\.Lts", key)
         if not m or not isinstance(table, dict):
