@@ -1,10 +1,13 @@
 -- What a read's answer means by its sign, and why a reading stays within its buffer: a step brings no more bytes than there was room for.
 -- Assumes nothing.
-use Rattle.std.specs.Prelude.{◌≡◌, refl, Bool, true, false, cond, List, ℕ, ◌+◌, ◌≤◌, min, T, eqb, ℤ, pos, negsuc, length}
+use Rattle.std.specs.Prelude.{◌≡◌, ◌↔◌, IsTrue, refl, Bool, true, false, cond, List, ℕ, ◌+◌, ◌≤◌, min, T, eqb, ℤ, pos, negsuc, length, Result, Ok, Err}
 use Rattle.std.proofs.Common.{sym, ap, subst, arith, length-take-le, ltb-true}
 use Rattle.std.specs.Int.Signed.{lt_z}
-use Rattle.io.specs.Counts.{IsPrefixLen, clamp_len}
-use Rattle.file_input.specs.Reads.{step_of, reading_of, Fitting, Holds}
+use Rattle.std.specs.Counts.{IsPrefixLen, clamp_len}
+use Rattle.std.specs.IoError.{error_kind}
+use Rattle.std.specs.declared.io.Error.{Error}
+use Rattle.std.specs.declared.io.ErrorKind.{ErrorKind}
+use Rattle.file_input.specs.Reads.{step_of, Means, reading_of, Fitting, Holds}
 use Rattle.file_input.specs.declared.Step.{Step}
 use Rattle.file_input.specs.declared.Step.TheVariants.{More, Ended, Broken}
 use Rattle.file_input.specs.declared.Reading.{Reading}
@@ -22,6 +25,13 @@ unfolding step_of
 step-counted (pos k) i n m e q = ap (λ (j : ℕ). cond (eqb j 0) Ended (More j)) q
 step-counted (negsuc k) i n m e q = absurd (subst T e tt)
 
+pub counted-means : (got : Result ℕ Error) (k n m : ℕ) → got ≡ Ok k → m ≡ min k n → Means got n (cond (eqb m 0) Ended (More m))
+unfolding step_of
+counted-means got k n m h q = subst (λ (r : Result ℕ Error). Means r n (cond (eqb m 0) Ended (More m))) (sym h) (ap (λ (j : ℕ). cond (eqb j 0) Ended (More j)) q)
+
+pub failed-means : (got : Result ℕ Error) (e : Error) (n : ℕ) (i : Bool) → got ≡ Err e → (IsTrue i ↔ (error_kind e ≡ ErrorKind.Interrupted)) → Means got n (cond i (More 0) Broken)
+failed-means got e n i h k = subst (λ (r : Result ℕ Error). Means r n (cond i (More 0) Broken)) (sym h) (i, k, step_negative (negsuc 0) i n refl)
+
 -- ---- a reading stays within its buffer
 
 pub step_fits : (got : ℤ) (i : Bool) (room from n : ℕ) → from + room ≤ n → Fitting (step_of got i room) from n
@@ -33,6 +43,10 @@ step_fits (pos k) i room from n h = go (eqb (min k room) 0)
     go false = omega arith
 step_fits (negsuc k) true room from n h = omega arith
 step_fits (negsuc k) false room from n h = tt
+
+pub means-fits : (got : Result ℕ Error) (room from n : ℕ) (s : Step) → Means got room s → from + room ≤ n → Fitting s from n
+means-fits (Ok k) room from n s m h = subst (λ (t : Step). Fitting t from n) (sym m) (step_fits (pos k) false room from n h)
+means-fits (Err e) room from n s (i, k, q) h = subst (λ (t : Step). Fitting t from n) (sym q) (step_fits (negsuc 0) i room from n h)
 
 pub step-brought : (s : Step) (k from n : ℕ) → s ≡ More k → Fitting s from n → from + k ≤ n
 step-brought s k from n e h = subst (λ (t : Step). Fitting t from n) e h

@@ -1,6 +1,9 @@
 -- What a read's answer means, and what a file's reading promises of the buffer. Assumes nothing: these are definitions.
-use Rattle.std.specs.Prelude.{Bool, cond, List, ℕ, ◌+◌, ◌≤◌, min, eqb, ℤ, pos, negsuc}
-use Rattle.io.specs.Counts.{IsPrefixLen}
+use Rattle.std.specs.Prelude.{◌≡◌, ◌↔◌, IsTrue, Bool, false, cond, List, ℕ, ◌+◌, ◌≤◌, min, eqb, ℤ, pos, negsuc, Result, Ok, Err}
+use Rattle.std.specs.Counts.{IsPrefixLen}
+use Rattle.std.specs.IoError.{error_kind}
+use Rattle.std.specs.declared.io.Error.{Error}
+use Rattle.std.specs.declared.io.ErrorKind.{ErrorKind}
 use Rattle.file_input.specs.declared.Step.{Step}
 use Rattle.file_input.specs.declared.Step.TheVariants.{More, Ended, Broken}
 use Rattle.file_input.specs.declared.Reading.{Reading}
@@ -10,6 +13,12 @@ use Rattle.file_input.specs.declared.Reading.TheVariants.{Whole, Failed}
 unfoldable pub step_of : ℤ → Bool → ℕ → Step
 step_of (pos k) interrupted n = cond (eqb (min k n) 0) Ended (More (min k n))
 step_of (negsuc k) interrupted n = cond interrupted (More 0) Broken
+
+-- what the result of a read that was handed room for n bytes means: a count is an answer from 0 on, and an error one below 0, interrupted if its
+-- kind says so
+abbrev pub Means : Result ℕ Error → ℕ → Step → Type 0
+Means (Ok k) n s = s ≡ step_of (pos k) false n
+Means (Err e) n s = (i : Bool) × (IsTrue i ↔ (error_kind e ≡ ErrorKind.Interrupted)) × (s ≡ step_of (negsuc 0) i n)
 
 -- only the end of the file, after so many bytes, makes a reading whole
 abbrev pub reading_of : Step → ℕ → Reading
