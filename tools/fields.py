@@ -21,7 +21,7 @@ for path, line, col, _, names in SAID.findall(log):
     v, depth, end = head[1], 0, head.end()
     while end < len(text):
         depth += (text[end] in "([{") - (text[end] in ")]}")
-        if depth < 0 or depth == 0 and text.startswith("| else-", end):
+        if depth < 0 or depth == 0 and re.match(r"\| (\S+-)?else-", text[end:end + 200]):
             break
         end += 1
     body = text[head.end():end]
