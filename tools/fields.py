@@ -8,7 +8,7 @@ import sys
 
 log = open(sys.argv[1], encoding="utf-8").read()
 done = 0
-SAID = re.compile(r"^\./(\S+?):(\d+):(\d+): error: [^\n]*has no field `field-(\d+)`.*?the fields that can be named here are ((?:`[^`]+`(?:, )?)+)", re.M | re.S)
+SAID = re.compile(r"^\./(\S+?):(\d+):(\d+): error: (?:(?!error:).)*?has no field `field-(\d+)`.*?the fields that can be named here are ((?:`[^`]+`(?:, )?)+)", re.M | re.S)
 for path, line, col, _, names in SAID.findall(log):
     names = re.findall(r"`([^`]+)`", names)
     with open(path, encoding="utf-8") as f:
