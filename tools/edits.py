@@ -155,7 +155,7 @@ def turn(commit):
                 head, text = line.split(": ", 1)
                 line = head + ": " + (spelled if head == "refused" else turned)(text, names, today)
             elif line.startswith("wrong: ") and not re.search(rf"\bfn {re.escape(line.split('::')[-1])}\b", sources(path.split("/")[1])):
-                line = spelled(line, names, today)
+                line = re.sub(r"[^:]+$", lambda m: spelled(m[0], names, today), line)
             after.append(line)
         with open(path, "w", encoding="utf-8") as f:
             f.write("\n".join(after))
