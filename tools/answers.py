@@ -63,6 +63,11 @@ class Fn:
             self.say(f"step {one}: {at} for {place}, in {'.'.join(fields)}")
         p = self.places[at]
         tail = rest[1:]
+        arm = self.table["arms"][self.table["places"].index(p)]
+        if arm:
+            for new, old, path in arm[2]:
+                if canon(old) == want and tail[:len(path)] == path:
+                    return None, ".".join([head, arm[0], new] + tail[len(path):])
         if tail and tail[0] == "new" and p[3] and len(tail) > 1 and re.fullmatch(r"\d", tail[1]):
             n, j = 0, 1
             names = self.table["params"].get(p[3], [])
@@ -258,6 +263,7 @@ def convert(crate, name, table, path):
             helpers.append(b)
             continue
         local, need = m[2], canon(m[3])
+        need = need if need in fn.goal else canon(local)
         if need not in fn.goal:
             fn.say(f"no goal {need}: {sorted(fn.goal)}")
             continue
