@@ -63,6 +63,11 @@ class Fn:
             self.say(f"step {one}: {at} for {place}, in {'.'.join(fields)}")
         p = self.places[at]
         tail = rest[1:]
+        arm = self.table["arms"][self.table["places"].index(p)]
+        if arm:
+            for new, old, path in arm[2]:
+                if canon(old) == want and tail[:len(path)] == path:
+                    return None, ".".join([head, arm[0], new] + tail[len(path):])
         if tail and tail[0] == "new" and p[3] and len(tail) > 1 and re.fullmatch(r"\d", tail[1]):
             n, j = 0, 1
             names = self.table["params"].get(p[3], [])
@@ -211,14 +216,18 @@ def convert_cycle(crate, name, tables, path):
         if re.fullmatch(r"\s*search rules\s*", term):
             continue
         term = by_cases(fn.turn(term, fn.at[need]), fn.said)
-        new = fn.table["stem"] + fn.goal[need]
+        stem = fn.table["stem"]
+        new = stem + fn.goal[need]
+        # what is required stands beside the measure no more, and a way into a join has the function's name
+        term = term.replace("c.requires.1", "c.requires").replace("args.requires.1", "args.requires")
+        term = re.sub(r"(?<![\w-])((?:then|else)-\S+ \S+ ↦)", lambda k: stem + k[1], term)
         gap = "\n    " if "\n" in term or len(term) > 120 else " "
         answers.append(f"{m[1]}pub {new} : goal.{new}\n{unfold}{new} t c ={gap}{term}")
     ref = "\n".join(answers)
     keep = [u for u in uses if f".proofs.{name}." not in u and ".Reads as" not in u and ".Kinds as" not in u]
     folder = os.path.dirname(path)
     with open(os.path.join(folder, "Answers.antt"), "w", encoding="utf-8") as f:
-        f.write("\n".join([l for l in bs[0].split("\n") if l.startswith("--")] + needed(keep, ref) + [f"use Rattle.{crate}.proofs.{name}.Goals as goal"]) + "\n\n" + "\n\n".join(answers) + "\n")
+        f.write("\n".join([l for l in bs[0].split("\n") if l.startswith("--")] + needed(keep, ref) + [f"use Rattle.{crate}.proofs.{name}.Goals as goal"] + cases_of(f"Rattle.{crate}.proofs.{name}", ref)) + "\n\n" + "\n\n".join(answers) + "\n")
     os.remove(path)
     return [s for fn in fns.values() for s in fn.said]
 
@@ -254,6 +263,7 @@ def convert(crate, name, table, path):
             helpers.append(b)
             continue
         local, need = m[2], canon(m[3])
+        need = need if need in fn.goal else canon(local)
         if need not in fn.goal:
             fn.say(f"no goal {need}: {sorted(fn.goal)}")
             continue
@@ -290,7 +300,7 @@ def convert(crate, name, table, path):
 
 
 def cases_of(module, text):
-    names = sorted(set(re.findall(r"(?<![\w-])((?:then|else)-\S+) \S+ ↦", text)))
+    names = sorted(set(re.findall(r"(?<![\w-])((?:[a-z_]+-)?(?:then|else)-\S+) \S+ ↦", text)))
     return [f"use {module}.Goals.{{{', '.join(names)}}}"] if names else []
 
 

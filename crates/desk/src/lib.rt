@@ -1,4 +1,4 @@
-// The planning desk's calls: C functions on numbers and byte slices. Nothing is kept between calls.
+// The planning desk's calls, on numbers and byte slices; crate desk_c exports them to C. Nothing is kept between calls.
 // A call is lent memory for what it fills: rows, weights and text; docs/FORMATS.md has their images.
 #![tactic(auto)]
 
@@ -24,13 +24,7 @@ pub struct Viewed {
 }
 
 // The minute in which the choice brings the train to its last station, 65,535 for none by the last minute.
-#[unsafe(no_mangle)]
-pub extern "C" fn lampreysong_single<'a>(
-    case: &'a [u8],
-    book: &'a [u8],
-    choice: &[u8],
-    train: u64,
-) -> Answer
+pub fn lampreysong_single<'a>(case: &'a [u8], book: &'a [u8], choice: &[u8], train: u64) -> Answer
     ensures { SingleGives case.now book.now choice.now train result }
 {
     let f = file_arguments::for_single(case, book, choice, train as usize);
@@ -44,8 +38,7 @@ pub extern "C" fn lampreysong_single<'a>(
 }
 
 // The joint run to a stop minute: rows and weights, and the number of entries.
-#[unsafe(no_mangle)]
-pub extern "C" fn lampreysong_run<'a>(
+pub fn lampreysong_run<'a>(
     case: &'a [u8],
     book: &'a [u8],
     stop: u64,
@@ -68,8 +61,7 @@ pub extern "C" fn lampreysong_run<'a>(
 }
 
 // The listing over the whole window, with rows and weights after the last minute, and its number of bytes.
-#[unsafe(no_mangle)]
-pub extern "C" fn lampreysong_listing<'a>(
+pub fn lampreysong_listing<'a>(
     case: &'a [u8],
     book: &'a [u8],
     rows: &mut [u8],
@@ -100,8 +92,7 @@ pub extern "C" fn lampreysong_listing<'a>(
 }
 
 // The figures of a train for a limit in minutes, with rows and weights after the last minute.
-#[unsafe(no_mangle)]
-pub extern "C" fn lampreysong_figures<'a>(
+pub fn lampreysong_figures<'a>(
     case: &'a [u8],
     book: &'a [u8],
     train: u64,
@@ -148,8 +139,7 @@ fn run_plain<'a>(
 }
 
 // Every choice by itself to a stop minute: the weights, and the number of choices run.
-#[unsafe(no_mangle)]
-pub extern "C" fn lampreysong_plain<'a>(
+pub fn lampreysong_plain<'a>(
     case: &'a [u8],
     book: &'a [u8],
     stop: u64,
@@ -172,8 +162,7 @@ pub extern "C" fn lampreysong_plain<'a>(
 }
 
 // The choices numbered from `first` on, at most `most` of them, added to the weights as they are lent; the number of choices run.
-#[unsafe(no_mangle)]
-pub extern "C" fn lampreysong_plain_part<'a>(
+pub fn lampreysong_plain_part<'a>(
     case: &'a [u8],
     book: &'a [u8],
     stop: u64,
@@ -198,8 +187,7 @@ pub extern "C" fn lampreysong_plain_part<'a>(
 }
 
 // What the field viewer gives at a place of a file, and its place then: past the field, or the same if none was given.
-#[unsafe(no_mangle)]
-pub extern "C" fn lampreysong_field(file: &[u8], place: u64) -> Viewed
+pub fn lampreysong_field(file: &[u8], place: u64) -> Viewed
     ensures { FieldGives file.now place result }
 {
     let f = file_fields::field_at(file, place as usize);

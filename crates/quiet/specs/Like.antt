@@ -25,6 +25,7 @@ pub data Like (p : ℕ) : List ℕ → List ℕ → Type 0 where
 
 pub quiet_like : {p r : ℕ} {es fs : List ℕ} → full_of 8 p ≡ true → Like p es fs → Quiet p r es → Quiet p r fs
 quiet_like {r = zero} f l q = enough
+quiet_like {p = p} {r = suc r} f none q = elim q [ ]
 quiet_like {r = suc r} f (same l) (apart h k) = apart h (quiet_like f l k)
 quiet_like {r = suc r} f (same l) (inside h k) = inside h (quiet_like f l k)
 quiet_like {r = suc r} f (gone g l) (apart h k) = quiet_like f l k

@@ -35,6 +35,7 @@ unfolding carried
 quiet-held cap c zero p [] f e enough = ap (λ (b : Bool). part p b ∷ []) (le-leb cap c (omega arith))
 quiet-held cap c zero p (m ∷ es) f e enough =
     ap (λ (b : Bool). turn b (ltb (c + suc (length es)) cap) (full_of 8 (bit_and p m)) (carried cap es) c p (bit_and p m)) (le-leb cap c (omega arith))
+quiet-held cap c (suc r) p [] f e q = elim q [ ]
 quiet-held cap c (suc r) p (m ∷ es) f e (apart h k) =
     turn_on cap c r p m es e (omega (arith, quiet_long k))
     ∙ ap (λ (b : Bool). turn false false b (carried cap es) c p (bit_and p m)) h
