@@ -9,7 +9,7 @@ use std::io;
 use std::io::{ErrorKind, Read};
 
 // What one read came to: so many bytes, none of them where a signal came first; the end of the file; or a failure.
-#[derive(Drop)]
+#[derive(Clone, Copy)]
 enum Step {
     More(usize),
     Ended,
@@ -17,7 +17,7 @@ enum Step {
 }
 
 // What reading a file came to: so many bytes, up to the file's end or as many as there was room for; or a read failed before that.
-#[derive(Drop)]
+#[derive(Clone, Copy)]
 pub enum Reading {
     Whole(usize),
     Failed,
