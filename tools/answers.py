@@ -49,7 +49,7 @@ class Fn:
         if one in ("well-formed",):
             return None, ".".join([head, "well_formed"] + rest[1:])
         # the step of this place, or else the nearest on the way to the start that has the name
-        want, chain, up = canon(one), [], start
+        want, chain, up = canon(one.removesuffix("_lem")), [], start
         while up is not None:
             chain.append(up)
             up = self.places[up][1]
