@@ -109,7 +109,8 @@ class Fn:
                 continue
             out += text[at]
             at += 1
-        return out
+        # the test of a branch on '!x' is the fact of x itself
+        return re.sub(r"not-(?:true|false) \S+ (\S*\.if-not-[^\s.()]+\.(?:true|false))", r"\1", out)
 
 
 def atom(text, at):
