@@ -14,6 +14,10 @@ import sys
 IDENT = r"[^\s(){}.;,@\"«»]+"
 
 
+# Steps that had the name of a lemma, which has another now.
+STEPS = {"is_of_file": "of_file"}
+
+
 def canon(name):
     name = re.sub(r"^(overflow[-_])", "", name)
     return name.replace("_", "-").lower()
@@ -49,7 +53,7 @@ class Fn:
         if one in ("well-formed",):
             return None, ".".join([head, "well_formed"] + rest[1:])
         # the step of this place, or else the nearest on the way to the start that has the name
-        want, chain, up = canon(one), [], start
+        want, chain, up = canon(STEPS.get(one, one.removesuffix("_lem"))), [], start
         while up is not None:
             chain.append(up)
             up = self.places[up][1]
@@ -109,7 +113,10 @@ class Fn:
                 continue
             out += text[at]
             at += 1
-        return out
+        # the variants that are left
+        out = re.sub(r"(?<![\w.])(c\.\S+-own\.keys\d+)", r"(opened \1)", out)
+        # the test of a branch on '!x' is the fact of x itself
+        return re.sub(r"not-(?:true|false) \S+ (\S*\.if-not-[^\s.()]+\.(?:true|false))", r"\1", out)
 
 
 def atom(text, at):
@@ -188,6 +195,7 @@ def turn_invariant(fn, block, said):
         fn.say(f"{len(args)} variables of {loop}: {names}")
         fields = ["l.initial." + a.strip("«»₀") if a.strip("«»").endswith("₀") else "l." + a.strip("«»") for a in args]
     turned = dict(zip(args, fields))
+    turned.update({f"«{a}»": f for a, f in zip(args, fields) if not a.startswith("«")})
     rest = re.sub(r"(?<![\w.′'₀-₉«»-])(" + "|".join(sorted(map(re.escape, turned), key=len, reverse=True)) + r")(?![\w′'₀-₉»-])", lambda m: turned[m[1]], rest)
     return f"abbrev pub {kind}-{new} : goal.{kind}-{new}\n{unfold}{kind}-{new} l ={rest}"
 
@@ -286,6 +294,8 @@ def convert(crate, name, table, path):
         term = by_cases(fn.turn(term, fn.at[need]), fn.said)
         gap = "\n    " if "\n" in term or len(term) > 120 else " "
         answers.append(f"{m[1]}pub {new} : goal.{new}\n{unfold}{new} c ={gap}{term}")
+    if any("(opened c." in a for a in answers):
+        uses.append("use borrow.Enum.Refused.{opened}")
     folder = os.path.dirname(path)
     if invariants:
         ref = "\n".join(invariants)

@@ -1,0 +1,41 @@
+-- `out_rows::put_mark` meets its contract. Eight stores, each of what `mark_of` says, are one writing of the state's bytes. Assumes nothing.
+use mathlib.Core.Path.{refl, sym, ap, ◌∙◌}
+use Prim.Native.Nat.{ℕ, ◌/◌, ◌%◌}
+use native.Mathlib.Omega.{arith}
+use native.Mathlib.Nat.{div-one}
+use lib.ListN.{length-set}
+use Rattle.theory_codes.specs.Codes.{mark_of}
+use Rattle.out_images.proofs.Laws.{marks_block}
+use Rattle.out_images.proofs.Laws.{sets_eight}
+use Rattle.out_images.specs.Rows.{mark_bytes}
+use Rattle.out_rows.proofs.put_mark.Goals as goal
+
+pub bounds-out-at-2 : goal.bounds-out-at-2
+bounds-out-at-2 c = simp length-set (omega arith)
+
+pub bounds-out-at-3 : goal.bounds-out-at-3
+bounds-out-at-3 c = simp length-set (omega arith)
+
+pub bounds-out-at-4 : goal.bounds-out-at-4
+bounds-out-at-4 c = simp length-set (omega arith)
+
+pub bounds-out-at-5 : goal.bounds-out-at-5
+bounds-out-at-5 c = simp length-set (omega arith)
+
+pub bounds-out-at-6 : goal.bounds-out-at-6
+bounds-out-at-6 c = simp length-set (omega arith)
+
+pub bounds-out-at-7 : goal.bounds-out-at-7
+bounds-out-at-7 c = simp length-set (omega arith)
+
+pub bounds-out-at-8 : goal.bounds-out-at-8
+bounds-out-at-8 c = simp length-set (omega arith)
+
+pub shape_of-out : goal.shape_of-out
+shape_of-out c = simp length-set
+
+pub returns : goal.returns
+unfolding mark_bytes mark_of
+returns c =
+    sets_eight c.args.out.now c.args.at c.low.ensures (marks_block (c.args.s / 2048 % 2) (omega arith)) c.kind.ensures
+    c.number.ensures c.low-2.ensures (c.low-3.ensures ∙ ap (λ (v : ℕ). v % 256) (sym (div-one (c.args.s % 2048)))) refl refl

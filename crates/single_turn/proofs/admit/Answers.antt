@@ -1,0 +1,47 @@
+-- `single_turn::admit` meets its contract: the train enters, and its next turn and those of who waited for what it left are known. Assumes nothing.
+use mathlib.Core.Path.{ap}
+use Prim.Native.Nat.{ℕ, ◌+◌, ◌%◌}
+use native.Mathlib.Omega.{arith}
+use lib.ListN.{get_or}
+use Rattle.single_laws.specs.Going.{turn-known, turn-own, turn-minute}
+use Rattle.single_laws.specs.Moves.{read_fits, read-size, read-going}
+use Rattle.single_turn.proofs.admit.Goals as goal
+
+pub enter-requires : goal.enter-requires
+enter-requires c =
+    let p = c.requires.0 in
+    let few = turn-known p.0 p.1 p.2 p.3 in
+    (p.0.small, omega (arith, c.at-k.ensures, few), turn-minute p.0 p.1 p.2 p.3, turn-own p.0 p.1 p.2 p.3)
+
+pub advance-requires : goal.advance-requires
+advance-requires c =
+    let p = c.requires.0 in
+    let a = c.args in
+    let k = c.at-k.ensures in
+    let few = turn-known p.0 p.1 p.2 p.3 in
+    let moves = p.1.moves _ (p.0.known (a.q % 8) p.2.0) in (
+      p.0,
+      read_fits p.0 p.1 p.2 p.3 c.requires.1 c.at-k.result _ k c.enter.ensures,
+      p.2.0,
+      p.3,
+      omega (arith, k, few),
+      omega (arith, moves, ap (λ (j : ℕ). get_or a.asks.now (8 + j) 0) k),
+    )
+
+pub tell-requires : goal.tell-requires
+tell-requires c =
+    let p = c.requires.0 in
+    let k = c.at-k.result in (
+      p.0,
+      read_fits p.0 p.1 p.2 p.3 c.requires.1 k _ c.at-k.ensures c.enter.ensures,
+      read-size p.0 p.1 p.2 p.3 c.requires.1 k c.at-left.result _ _
+          c.at-k.ensures c.at-left.ensures c.enter.ensures c.advance.ensures,
+      omega (arith, p.3),
+    )
+
+pub returns : goal.returns
+returns c =
+    let p = c.requires.0 in
+    let both = read-going p.0 p.1 p.2 p.3 c.requires.1 c.at-k.result c.at-left.result _ _
+    c.at-k.ensures c.at-left.ensures c.enter.ensures c.advance.ensures _ c.tell.ensures in
+    record { going = both.0; words = both.1 }
