@@ -4,49 +4,54 @@
 #![tactic(auto)]
 
 use file_lookup::Files;
+use std::io::Read;
 
-fn print_refusal(number: usize, file: usize, place: usize) -> bool {
-    tool_console::number(number);
-    tool_console::space();
-    tool_console::number(file);
-    tool_console::space();
-    tool_console::number(place);
-    tool_console::line_end()
+fn print_refusal<P: Print>(out: &P, number: usize, file: usize, place: usize) -> bool {
+    tool_console::number(out, number);
+    tool_console::space(out);
+    tool_console::number(out, file);
+    tool_console::space(out);
+    tool_console::number(out, place);
+    tool_console::line_end(out)
 }
 
-fn print_verdict(case: &[u8], book: &[u8]) -> bool {
+fn print_verdict<P: Print>(out: &P, case: &[u8], book: &[u8]) -> bool {
     let f = file_lookup::read_files(case, book);
     match f {
-        Files::Sound(_) => tool_console::word(b"accepted\n"),
-        Files::Unsound(number, file, place) => print_refusal(number, file, place),
+        Files::Sound(_) => tool_console::word(out, b"accepted\n"),
+        Files::Unsound(number, file, place) => print_refusal(out, number, file, place),
     }
 }
 
 // Judges the next pair, and answers whether there was one.
-fn judge_pair() -> bool {
+fn judge_pair<R: Read, P: Print, E: Print>(input: &mut R, out: &P, error: &E) -> bool {
     let mut sizes = [0u8; 4];
-    if !tool_console::next_sizes(&mut sizes) {
+    if !tool_console::next_sizes(input, error, &mut sizes) {
         return false;
     }
     let a = file_fields::word(&sizes, 0);
     let b = file_fields::word(&sizes, 2);
-    let mut case = io::buffer();
-    let mut book = io::buffer();
-    if !tool_console::next_bytes(a, &mut case) {
+    let mut case = [0u8; 4096];
+    let mut book = [0u8; 4096];
+    if !tool_console::next_bytes(input, error, a, &mut case) {
         return false;
     }
-    if !tool_console::next_bytes(b, &mut book) {
+    if !tool_console::next_bytes(input, error, b, &mut book) {
         return false;
     }
     let n = tool_console::within(a, &case);
     let m = tool_console::within(b, &book);
-    print_verdict(&case[..n], &book[..m])
+    print_verdict(out, &case[..n], &book[..m])
 }
 
-// A proved loop ends: it counts its turns down from a number that no input uses up.
-fn main() {
-    let mut turns = u64::MAX;
-    while turns > 0 && judge_pair() {
-        turns -= 1;
+// A proved loop ends: its turns are counted, and no input uses them up.
+fn main(rt: HostRuntime) {
+    let mut input = rt.stdin();
+    let out = rt.stdout();
+    let error = rt.stderr();
+    for _ in 0..u64::MAX {
+        if !judge_pair(&mut input, &out, &error) {
+            return;
+        }
     }
 }
