@@ -229,7 +229,7 @@ def convert_cycle(crate, name, tables, path):
         unfold, body = mm[1], body[mm.end():]
         m2 = re.match(re.escape(m[2]) + r"((?: [^\s=]+)*) =[ \n]*", body)
         term = body[m2.end():]
-        if re.fullmatch(r"\s*search rules\s*", term):
+        if not unfold and re.fullmatch(r"\s*search rules\s*", term):
             continue
         term = by_cases(fn.turn(term, fn.at[need]), fn.said)
         stem = fn.table["stem"]
@@ -298,7 +298,7 @@ def convert(crate, name, table, path):
             continue
         args = m2[1].split()
         term = body[m2.end():]
-        if re.fullmatch(r"\s*search rules\s*", term):
+        if not unfold and re.fullmatch(r"\s*search rules\s*", term):
             continue
         if not args or args[0] != "c":
             fn.say(f"answer {local} takes {args}")
