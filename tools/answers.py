@@ -201,14 +201,22 @@ def turn_invariant(fn, block, said):
 
 
 def convert_cycle(crate, name, tables, path):
-    """The answers of a cycle of calls; its measures and invariants are written by hand."""
+    """The answers and the measures of a cycle of calls; the invariants of its loops are written by hand."""
     text = open(path, encoding="utf-8").read()
     bs = blocks(text)
     uses = [l for b in bs for l in b.split("\n") if l.startswith("use ")]
     lts = {m[2]: m[1] for u in uses for m in [re.match(r"use \S+\.Lts-(\S+) as (\S+)", u)] if m}
     fns = {alias: Fn(crate, f"{name}/{f}", tables[f]) for alias, f in lts.items()}
-    answers, said = [], []
+    answers, measures = [], []
     for b in bs:
+        m = re.match(r"abbrev μ-(\S+) : Measures[^\n]*\nμ-\S+ κs a =(\s.*)", b, re.S)
+        if m:
+            f = next(f for f in tables if canon(f) == canon(m[1]))
+            names = next(v for k, v in fns[next(a for a, g in lts.items() if g == f)].table["params"].items() if k.endswith("::" + f))
+            term = re.sub(r"(?<![\w.])a((?:\.1)*)\.0(?!\d)", lambda k: "l." + names[len(k[1]) // 2], m[2])
+            stem = f
+            measures.append(f"abbrev pub decreases-{stem} : goal.decreases-{stem}\ndecreases-{stem} l ={term}")
+            continue
         m = re.match(r"((?:--[^\n]*\n)*)(" + IDENT + r") : \(t : ℕ\) → (" + IDENT + r")\.Need-(" + IDENT + r")([^\n]*)\n", b)
         if not m:
             continue
@@ -221,13 +229,13 @@ def convert_cycle(crate, name, tables, path):
         unfold, body = mm[1], body[mm.end():]
         m2 = re.match(re.escape(m[2]) + r"((?: [^\s=]+)*) =[ \n]*", body)
         term = body[m2.end():]
-        if re.fullmatch(r"\s*search rules\s*", term):
+        if not unfold and re.fullmatch(r"\s*search rules\s*", term):
             continue
         term = by_cases(fn.turn(term, fn.at[need]), fn.said)
         stem = fn.table["stem"]
         new = stem + fn.goal[need]
         # what is required stands beside the measure no more, and a way into a join has the function's name
-        term = term.replace("c.requires.1", "c.requires").replace("args.requires.1", "args.requires")
+        term = term.replace("omega (arith, c.requires.0)", "omega arith").replace(", c.requires.0)", ")").replace("c.requires.1", "c.requires").replace("args.requires.1", "args.requires")
         term = re.sub(r"(?<![\w-])((?:then|else)-\S+ \S+ ↦)", lambda k: stem + k[1], term)
         gap = "\n    " if "\n" in term or len(term) > 120 else " "
         answers.append(f"{m[1]}pub {new} : goal.{new}\n{unfold}{new} t c ={gap}{term}")
@@ -236,6 +244,9 @@ def convert_cycle(crate, name, tables, path):
     folder = os.path.dirname(path)
     with open(os.path.join(folder, "Answers.antt"), "w", encoding="utf-8") as f:
         f.write("\n".join([l for l in bs[0].split("\n") if l.startswith("--")] + needed(keep, ref) + [f"use Rattle.{crate}.proofs.{name}.Goals as goal"] + cases_of(f"Rattle.{crate}.proofs.{name}", ref)) + "\n\n" + "\n\n".join(answers) + "\n")
+    ref = "\n".join(measures)
+    with open(os.path.join(folder, "Invariants.antt"), "w", encoding="utf-8") as f:
+        f.write("\n".join(needed(keep, ref) + [f"use Rattle.{crate}.proofs.{name}.Given as goal"]) + "\n\n" + "\n\n".join(measures) + "\n")
     os.remove(path)
     return [s for fn in fns.values() for s in fn.said]
 
@@ -287,7 +298,7 @@ def convert(crate, name, table, path):
             continue
         args = m2[1].split()
         term = body[m2.end():]
-        if re.fullmatch(r"\s*search rules\s*", term):
+        if not unfold and re.fullmatch(r"\s*search rules\s*", term):
             continue
         if not args or args[0] != "c":
             fn.say(f"answer {local} takes {args}")

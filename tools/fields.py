@@ -67,7 +67,7 @@ for path, line, col, n, names in NUMBER.findall(log):
     with open(path, encoding="utf-8") as f:
         text = f.read()
     names, at = re.findall(r"`([^`]+)`", names), place(text, line, col)
-    near = [m for m in re.finditer(rf"(?<=\.auto\.){n}(?![\w-])", text) if text.count("\n", 0, m.start()) == int(line) - 1]
+    near = [m for m in re.finditer(rf"(?<=\.){n}(?![\w-])", text) if text.count("\n", 0, m.start()) == int(line) - 1]
     if near and int(n) < len(names):
         m = min(near, key=lambda k: abs(k.start() - at))
         edits.append((path, m.start(), m.end(), names[int(n)]))
