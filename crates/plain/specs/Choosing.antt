@@ -1,6 +1,6 @@
 -- How a number is taken apart into a choice, from the last train to the first, and how its weight is multiplied up on the way; neither passes 64 bits.
 -- Each step divides by the size of one more table. Assumes nothing.
-use Rattle.std.specs.Prelude.{◌≡◌, ℕ, zero, suc, ◌+◌, ◌-◌, ◌*◌, ◌/◌, ◌%◌, ◌^◌, ◌<◌, ◌≤◌, List, [], ◌∷◌, length, take, drop, set, slice_index, slice_set, refl}
+use Rattle.std.specs.Prelude.{◌≡◌, ℕ, zero, suc, ◌+◌, ◌-◌, ◌*◌, ◌/◌, ◌%◌, ◌^◌, ◌<◌, ◌≤◌, List, [], ◌∷◌, length, take, drop, slice_index, slice_set, refl}
 use Rattle.std.proofs.Common.{sym, ap, ap₂, ◌∙◌, mul_comm, mul-le-mul, mod-lt, div-one, arith, length-set, drop-cons, get_or-set_same, drop-set-lt, length-take-le}
 use Rattle.std.proofs.Math.Nat.{div-div-eq-div-mul, pow-succ', pow-le-pow_right}
 use Rattle.std.proofs.Math.Seq.{take-set-lt, drop-length}

@@ -1,12 +1,12 @@
 -- The words of the plain engine stand for what the definitions say: for the tables of a sound case, the number taken apart is the choice of that number, its weight
 -- is the choice's, and after the choices of a part each word is what the part adds for its train and minute. No sum passes 100^n. Takes `Sound` as given, and
 -- assumes nothing else.
-use Rattle.std.specs.Prelude.{◌≡◌, ℕ, suc, ◌+◌, ◌-◌, ◌*◌, ◌/◌, ◌%◌, ◌^◌, ◌<◌, ◌≤◌, Bool, true, false, cond, List, [], ◌∷◌, map, length, get_or, take, drop, replicate, nat_lt, slice_index, slice_index_or, refl}
+use Rattle.std.specs.Prelude.{◌≡◌, ℕ, suc, ◌+◌, ◌*◌, ◌/◌, ◌%◌, ◌^◌, ◌<◌, ◌≤◌, Bool, true, false, cond, List, [], ◌∷◌, map, length, get_or, take, drop, replicate, nat_lt, slice_index, slice_index_or, refl}
 use Rattle.std.proofs.Common.{sym, ◌∙◌, mod-eq_of_lt, mod-lt, arith, ltb-true, ltb-false}
 use Rattle.std.proofs.Math.Path.{ap, ap₂}
-use Rattle.std.proofs.Math.Option.{Option, none, some}
+use Rattle.std.proofs.Math.Option.{Option}
 use Rattle.std.proofs.Math.ListN.{length-replicate, get_or-eq_default}
-use Rattle.rules.specs.Lists.{sum, below}
+use Rattle.rules.specs.Lists.{below}
 use Rattle.rules.specs.Files.{Case, Pair}
 use Rattle.rules.specs.Single.{pair_at, single, minute_of}
 use Rattle.rules.specs.Joint.{choices, whole, covers, weight_from, weight_of}

@@ -3,7 +3,6 @@
 use Rattle.std.specs.Prelude.{◌≡◌, ℕ, zero, suc, ◌+◌, ◌-◌, ◌<◌, ◌≤◌, Bool, true, false, cond, List, [], ◌∷◌, length, take, drop, nat_le, nat_lt, slice_index, slice_index_or, slice_range}
 use Rattle.std.proofs.Math.Path.{refl}
 use Rattle.std.proofs.Common.{sym, ap, ◌∙◌, subst, arith, length-take, take_all, leb-true, ltb-true, ltb-false}
-use Rattle.std.proofs.Math.Option.{some}
 use Rattle.std.proofs.Math.ListN.{length-drop}
 use Rattle.rules.specs.Lists.{fold, span}
 use Rattle.rules.specs.Files.{Case}
