@@ -113,6 +113,13 @@ class Fn:
                 continue
             out += text[at]
             at += 1
+        # a step that has a name of the answer's own
+        for name, step in re.findall(r"let (" + IDENT + r") = c\.([^\s.]+) in", out):
+            callee = next((p[3] for p in self.places.values() if p[2][1] == step and p[3]), None)
+            names = self.table["params"].get(callee, [])
+            out = re.sub(rf"(?<![\w.]){re.escape(name)}\.new((?:\.1)*)\.0(?!\d)", lambda m: f"{name}.new.{names[len(m[1]) // 2]}" if len(m[1]) // 2 < len(names) else m[0], out)
+        # what the library says of a sum that wraps is a clause with a name
+        out = re.sub(r"(c\.wrapping_add_u64\S*?\.ensures)(?![\w.-])", r"\1.value", out)
         # the variants that are left
         out = re.sub(r"(?<![\w.])(c\.\S+-own\.keys\d+)", r"(opened \1)", out)
         # the test of a branch on '!x' is the fact of x itself
@@ -309,9 +316,18 @@ def convert(crate, name, table, path):
         uses.append("use borrow.Enum.Refused.{opened}")
     folder = os.path.dirname(path)
     if invariants:
+        # what the invariants say by a name of the file stands with them
+        shared = []
+        for b in list(helpers):
+            m = re.match(r"(?:--[^\n]*\n)*(abbrev |unfoldable )(?:pub )?(" + IDENT + r") ", b)
+            if m and re.search(rf"(?<![\w.-]){re.escape(m[2])}(?![\w-])", "\n".join(invariants)):
+                helpers.remove(b)
+                shared.append(b.replace(m[1] + m[2], m[1] + "pub " + m[2], 1))
+                uses.append(f"use {module}.Invariants.{{{m[2]}}}")
+        invariants = shared + invariants
         ref = "\n".join(invariants)
         with open(os.path.join(folder, "Invariants.antt"), "w", encoding="utf-8") as f:
-            f.write("\n".join(comments + needed(uses, ref) + [f"use {module}.Given as goal"]) + "\n\n" + "\n\n".join(invariants) + "\n")
+            f.write("\n".join(comments + [u for u in needed(uses, ref) if f"{module}.Invariants" not in u] + [f"use {module}.Given as goal"]) + "\n\n" + "\n\n".join(invariants) + "\n")
     if answers or helpers:
         ref = "\n".join(answers + helpers)
         with open(os.path.join(folder, "Answers.antt"), "w", encoding="utf-8") as f:

@@ -68,9 +68,10 @@ for path, line, col, n, names in NUMBER.findall(log):
         text = f.read()
     names, at = re.findall(r"`([^`]+)`", names), place(text, line, col)
     near = [m for m in re.finditer(rf"(?<=\.){n}(?![\w-])", text) if text.count("\n", 0, m.start()) == int(line) - 1]
-    if near and int(n) < len(names):
+    n = 0 if len(names) == 1 else int(n)
+    if near and n < len(names):
         m = min(near, key=lambda k: abs(k.start() - at))
-        edits.append((path, m.start(), m.end(), names[int(n)]))
+        edits.append((path, m.start(), m.end(), names[n]))
 for path, line, col, n, names in LABEL.findall(log):
     with open(path, encoding="utf-8") as f:
         text = f.read()
