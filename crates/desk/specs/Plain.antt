@@ -15,7 +15,7 @@ use Rattle.rules.specs.Decoded.{weight_in}
 use Rattle.rules.specs.Plain.{Plain, added_by, capped, plain_of, plain_image, part_image, LentWeights, weighed, weighing}
 use Rattle.rules.specs.Promised.{Bytes}
 use Rattle.theory_sound.specs.Facts.{Sound}
-use Rattle.theory_sound.specs.Accepted.{accepted-sound}
+use Rattle.theory_sound.proofs.Accepted.{accepted-sound}
 use Rattle.theory_codes.specs.Tables.{tables}
 use Rattle.theory_plain.specs.Numbered.{times, choices-count, combinations-most}
 use Rattle.theory_plain.specs.Decided.{plain_on, weighing-short, weighing-long}

@@ -14,7 +14,7 @@ use Rattle.rules.specs.Single.{arrival}
 use Rattle.rules.specs.Calls.{choice_broken, no_such_train, single_run}
 use Rattle.rules.specs.Promised.{Bytes}
 use Rattle.theory_sound.specs.Facts.{Sound}
-use Rattle.theory_sound.specs.Accepted.{accepted-sound}
+use Rattle.theory_sound.proofs.Accepted.{accepted-sound}
 use Rattle.theory_codes.specs.Tables.{tables}
 use Rattle.theory_passes.specs.Bounds.{ByteDelays}
 use Rattle.file_lookup.specs.declared.Sizes.{Sizes}

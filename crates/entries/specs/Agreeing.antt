@@ -22,8 +22,10 @@ use Rattle.theory_codes.specs.Tables.{order, tables}
 use Rattle.theory_passes.specs.Passes.{pass_list, pass, cleared, element_passes, minute_passes, minutes_passes}
 use Rattle.theory_lists.specs.Folds.{fold-append}
 use Rattle.theory_passes.specs.Order.{order-known, order-length}
-use Rattle.theory_passes.specs.Joint.{Lawful, pass_lawful, pass-nobody, pass-met, pass-refused, cleared_lawful}
-use Rattle.theory_passes.specs.Bounds.{AllBounded, pass-bounded, cleared-bounded}
+use Rattle.theory_passes.specs.Joint.{Lawful}
+use Rattle.theory_passes.proofs.Joint.{pass_lawful, pass-nobody, pass-met, pass-refused, cleared_lawful}
+use Rattle.theory_passes.specs.Bounds.{AllBounded, cleared-bounded}
+use Rattle.theory_passes.proofs.Bounds.{pass-bounded}
 use Rattle.theory_passes.specs.Arrivals.{arrived_weight}
 use Rattle.rows.specs.Rows.{Row}
 use Rattle.visiting.specs.Visit.{Outcome, guard, some_asks, job_for, after_pass, pass_of}

@@ -13,7 +13,7 @@ use Rattle.theory_weights.specs.Arrivals.{joint-seen, weight_at-most}
 use Rattle.theory_weights.specs.Most.{total-most}
 use Rattle.theory_codes.specs.Tables.{tables}
 use Rattle.theory_passes.specs.Passes.{joint_passes}
-use Rattle.theory_passes.specs.Joint.{joint-passes}
+use Rattle.theory_passes.proofs.Joint.{joint-passes}
 use Rattle.theory_passes.specs.Bounds.{ByteDelays}
 use Rattle.rows.specs.Rows.{rows_of, words}
 use Rattle.rows.specs.Written.{words-rows_of, words-length}

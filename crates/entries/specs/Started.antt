@@ -21,7 +21,7 @@ use Rattle.theory_lists.specs.Every.{Every}
 use Rattle.theory_lists.specs.Below.{every_below}
 use Rattle.theory_codes.specs.Codes.{state_of}
 use Rattle.theory_codes.specs.Tables.{tables}
-use Rattle.theory_passes.specs.Joint.{first_lawful}
+use Rattle.theory_passes.proofs.Joint.{first_lawful}
 use Rattle.theory_trace.specs.Room.{check_list-room}
 use Rattle.theory_passes.specs.Bounds.{ByteDelays, first_list-bounded}
 use Rattle.cut.specs.Packed.{packed_in}

@@ -21,7 +21,8 @@ use Rattle.theory_lists.specs.Every.{Every, every_more}
 use Rattle.theory_sound.specs.Facts.{Sound}
 use Rattle.theory_sound.specs.Ways.{same_true, same_self}
 use Rattle.theory_sound.specs.Trains.{way-known, way_apart}
-use Rattle.theory_sound.specs.Accepted.{accepted-sound, accepted-couples}
+use Rattle.theory_sound.specs.Accepted.{accepted-couples}
+use Rattle.theory_sound.proofs.Accepted.{accepted-sound}
 use Rattle.file_fields.specs.Fields.{past}
 use Rattle.file_lookup.specs.declared.Sizes.{Sizes}
 use Rattle.file_lookup.specs.Answers.{sizes_of}

@@ -6,7 +6,8 @@ use Rattle.std.proofs.Math.Path.{sym}
 use Rattle.rules.specs.Refusals.Result.{answer}
 use Rattle.rules.specs.Files.{Contents, Case, byte, table_of, first_pairs, tables_of, case_of, files}
 use Rattle.theory_sound.specs.Facts.{Sound}
-use Rattle.theory_sound.specs.Accepted.{Reads, accepted_reads, accepted-sound}
+use Rattle.theory_sound.specs.Accepted.{Reads, accepted_reads}
+use Rattle.theory_sound.proofs.Accepted.{accepted-sound}
 use Rattle.file_fields.specs.Fields.{past}
 use Rattle.file_lookup.specs.Tables.{table-pairs}
 use Rattle.file_tables.specs.Model.{gather, tracks_from, train_in, table_in, couple_in, couples_from, couple_place, track_place, train_place}

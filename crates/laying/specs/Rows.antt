@@ -11,8 +11,9 @@ use Rattle.theory_sound.specs.Facts.{Sound}
 use Rattle.theory_lists.specs.Every.{Every, every_more}
 use Rattle.theory_simulation.specs.Simulation.{joint-proper}
 use Rattle.theory_trace.specs.Room.{room-minutes, list-fits}
-use Rattle.theory_passes.specs.Joint.{joint-passes}
-use Rattle.theory_passes.specs.Bounds.{ByteDelays, Bounded, bounded-train, joint-bounded}
+use Rattle.theory_passes.proofs.Joint.{joint-passes}
+use Rattle.theory_passes.specs.Bounds.{ByteDelays, Bounded, bounded-train}
+use Rattle.theory_passes.proofs.Bounds.{joint-bounded}
 use Rattle.theory_codes.specs.Codes.{state_of}
 use Rattle.cut.specs.Packed.{packed}
 use Rattle.cut.specs.Covers.{sets_fit}
@@ -25,7 +26,7 @@ use Rattle.out_images.specs.Rows.{row_of, SmallEntry}
 use Rattle.rules.specs.Refusals.Result.{answer}
 use Rattle.rules.specs.Demands.{passes}
 use Rattle.rules.specs.Promised.{Bytes}
-use Rattle.theory_sound.specs.Accepted.{accepted-sound}
+use Rattle.theory_sound.proofs.Accepted.{accepted-sound}
 use Rattle.theory_codes.specs.Tables.{tables}
 use Rattle.file_lookup.specs.declared.Sizes.{Sizes}
 use Rattle.weigh.specs.Weigh.{Small}

@@ -23,7 +23,7 @@ use Rattle.theory_weights.specs.Most.{total-most}
 use Rattle.theory_demands.specs.Choices.{choice-unbroken}
 use Rattle.theory_codes.specs.Tables.{tables}
 use Rattle.theory_codes.specs.Lookups.{table-trains, table-delays, table-weight}
-use Rattle.theory_passes.specs.Unknown.{unknown-never}
+use Rattle.theory_passes.proofs.Unknown.{unknown-never}
 use Rattle.theory_plain.specs.Numbered.{map_same, times, indices, sizes, sizes-some, sizes-most, sizes-length, combinations-times, choices-count, choice_numbered}
 use Rattle.theory_plain.specs.Added.{added_more, part-most}
 use Rattle.single_laws.specs.Shows.{minute_in}

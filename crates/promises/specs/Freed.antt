@@ -13,7 +13,7 @@ use Rattle.rules.specs.Demands.{Choice, view, run_lists}
 use Rattle.rules.specs.Decoded.{entries_in}
 use Rattle.rules.specs.Promised.{Meant}
 use Rattle.theory_lists.specs.Every.{Every}
-use Rattle.theory_sound.specs.Accepted.{accepted-sound}
+use Rattle.theory_sound.proofs.Accepted.{accepted-sound}
 use Rattle.theory_simulation.specs.Freed.{free_again}
 use Rattle.theory_demands.specs.Unblocked.{Stands, joint-stands, lists_stand}
 

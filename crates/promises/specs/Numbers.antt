@@ -14,7 +14,7 @@ use Rattle.rules.specs.Viewer.View.{field, ended, overruns}
 use Rattle.rules.specs.Calls.{Run, Memory, Lent, text_bytes, text_of, call, single_run, stopped_run, whole_run, train_run, run_call, listing_call, figures_call}
 use Rattle.rules.specs.Answers.{view_answer}
 use Rattle.rules.specs.Promised.{refusal_of, late_stop, missing_train}
-use Rattle.theory_sound.specs.Places.{files-told}
+use Rattle.theory_sound.proofs.Places.{files-told}
 use Rattle.theory_sound.specs.Verdicts.{refused-answer, refused-refused, Given, number-given}
 use Rattle.theory_calls.specs.Decided.{Decided, stopped_decided, whole_decided, train_decided, SingleDecided, single_decided}
 use Rattle.theory_calls.specs.Decided.{Decided as runs, SingleDecided as singles}

@@ -13,8 +13,8 @@ use Rattle.rules.specs.Refusals.Result.{refused, answer}
 use Rattle.rules.specs.Files.{most_trains, Case, files}
 use Rattle.rules.specs.Joint.{weight, joint, weight_at}
 use Rattle.rules.specs.Calls.{Run, Memory, Lent, call, short, filled, row_image, weights_image, rows_bytes, weights_bytes}
-use Rattle.theory_sound.specs.Accepted.{accepted-sound}
-use Rattle.theory_sound.specs.Places.{files-told}
+use Rattle.theory_sound.proofs.Accepted.{accepted-sound}
+use Rattle.theory_sound.proofs.Places.{files-told}
 use Rattle.theory_sound.specs.Runs.{Answered}
 use Rattle.rules.specs.Demands.{view}
 use Rattle.rules.specs.Decoded.{entries_in, weight_in}

@@ -20,8 +20,8 @@ use Rattle.rules.specs.Promised.{Outcome, Outcome as runs, PlainOutcome, PlainOu
 use Rattle.theory_lists.specs.Every.{Every}
 use Rattle.theory_sound.specs.Facts.{Sound}
 use Rattle.theory_sound.specs.Verdicts.{refused-answer}
-use Rattle.theory_sound.specs.Accepted.{accepted-sound}
-use Rattle.theory_sound.specs.Places.{files-told}
+use Rattle.theory_sound.proofs.Accepted.{accepted-sound}
+use Rattle.theory_sound.proofs.Places.{files-told}
 use Rattle.theory_weights.specs.Most.{total-most}
 use Rattle.theory_calls.specs.Memory.{cleared, written}
 use Rattle.theory_calls.specs.Decided.{stopped_decided}

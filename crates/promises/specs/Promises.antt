@@ -15,7 +15,7 @@ use Rattle.rules.specs.Joint.{joint}
 use Rattle.rules.specs.Listing.{listing}
 use Rattle.rules.specs.Figures.{plan, Figures, figures}
 use Rattle.rules.specs.Calls.{Lent, text_bytes, text_of, short, single_run, stopped_run, whole_run, train_run, run_call, listing_call, figures_call}
-use Rattle.theory_sound.specs.Accepted.{accepted-sound}
+use Rattle.theory_sound.proofs.Accepted.{accepted-sound}
 use Rattle.rules.specs.Demands.{Choice}
 use Rattle.rules.specs.Promised.{Outcome, Answers, Cleared, Meant, TextMeant, counted_listing, counted_figures, refusal_of, late_stop, missing_train, RefusedWith, Full, Bytes}
 use Rattle.theory_calls.specs.Decided.{stopped_decided, whole_decided, train_decided, SingleDecided, single_decided}

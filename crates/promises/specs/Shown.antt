@@ -10,15 +10,16 @@ use Rattle.rules.specs.Calls.{Run, row_image, weights_image}
 use Rattle.rules.specs.Promised.{Bytes}
 use Rattle.theory_lists.specs.Every.{Every, every_more}
 use Rattle.theory_sound.specs.Facts.{Sound}
-use Rattle.theory_sound.specs.Accepted.{accepted-sound}
+use Rattle.theory_sound.proofs.Accepted.{accepted-sound}
 use Rattle.theory_sound.specs.Runs.{Answered}
 use Rattle.theory_simulation.specs.Parts.{Parts}
 use Rattle.theory_simulation.specs.Simulation.{joint-proper}
 use Rattle.theory_weights.specs.Arrivals.{weight_at-most}
 use Rattle.theory_weights.specs.Most.{total-most}
 use Rattle.theory_demands.specs.Demands.{seen}
-use Rattle.theory_passes.specs.Joint.{joint-passes}
-use Rattle.theory_passes.specs.Bounds.{Bounded, joint-bounded}
+use Rattle.theory_passes.proofs.Joint.{joint-passes}
+use Rattle.theory_passes.specs.Bounds.{Bounded}
+use Rattle.theory_passes.proofs.Bounds.{joint-bounded}
 use Rattle.entries.specs.Encoded.{Good, proper_packable}
 use Rattle.entries.specs.Agreeing.{good_every}
 use Rattle.laying.specs.Delays.{byte-delays}

@@ -13,7 +13,7 @@ use Rattle.rules.specs.Viewer.{View, viewed}
 use Rattle.rules.specs.Viewer.View.{field, ended, overruns}
 use Rattle.rules.specs.Calls.{Memory, single_run, run_call, listing_call, figures_call}
 use Rattle.rules.specs.Answers.{Answer, number_answer, minute_number, minute_answer, punctuality_number, punctuality_value, FiguresAnswer, figures_answer, ViewAnswer, view_answer}
-use Rattle.theory_sound.specs.Accepted.{accepted-sound}
+use Rattle.theory_sound.proofs.Accepted.{accepted-sound}
 use Rattle.theory_calls.specs.Decided.{SingleDecided, single_decided}
 use Rattle.theory_calls.specs.Decided.{SingleDecided as singles}
 use Rattle.theory_calls.specs.Plan.{arrival-window}

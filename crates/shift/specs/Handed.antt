@@ -6,7 +6,7 @@ use Rattle.std.proofs.Math.Option.{Option}
 use Rattle.rules.specs.Refusals.{Result, then}
 use Rattle.rules.specs.Files.{Case}
 use Rattle.rules.specs.Calls.{run_to, whole_run}
-use Rattle.theory_sound.specs.Window.{files-window}
+use Rattle.theory_sound.proofs.Window.{files-window}
 use Rattle.rules.specs.Program.{text_for, printed, book_of, handed, program}
 
 -- what stands past the handed part never changes what is printed

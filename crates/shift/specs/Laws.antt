@@ -15,7 +15,7 @@ use Rattle.rules.specs.Joint.{joint}
 use Rattle.rules.specs.Listing.{decimal, line, refused_word, refused_line}
 use Rattle.rules.specs.Calls.{Run, run_to, whole_run, text_of, filled, Lent, lent, listing_call}
 use Rattle.rules.specs.Program.{text_for, printed}
-use Rattle.theory_sound.specs.Places.{files-told}
+use Rattle.theory_sound.proofs.Places.{files-told}
 use Rattle.theory_lists.specs.Writes.{Put}
 use Rattle.out_listing.specs.Suffices.{decimal-most}
 use Rattle.laying.specs.declared.Answer.{Answer}

@@ -22,7 +22,8 @@ use Rattle.theory_codes.specs.Tables.{order, tables}
 use Rattle.theory_passes.specs.Order.{order-known, order-length}
 use Rattle.theory_lists.specs.Folds.{fold-map}
 use Rattle.theory_passes.specs.Passes.{pass_train, cleared, element_passes, minute_passes, minutes_passes, single_passes}
-use Rattle.theory_passes.specs.Single.{InOrder, pass_train-orderly, cleared-orderly, single-passes}
+use Rattle.theory_passes.specs.Single.{InOrder, cleared-orderly}
+use Rattle.theory_passes.proofs.Single.{pass_train-orderly, single-passes}
 use Rattle.moving.specs.Words.{run_size, order_in, served_in, element_in, minute_in, start_in, ran_in}
 use Rattle.moving.specs.Turns.{fold-last}
 use Rattle.theory_lists.specs.Below.{get_d_below}

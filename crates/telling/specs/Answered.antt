@@ -12,7 +12,7 @@ use Rattle.rules.specs.Listing.{listing}
 use Rattle.rules.specs.Figures as rules
 use Rattle.rules.specs.Calls.{Run, filled, text_of}
 use Rattle.theory_sound.specs.Facts.{Sound}
-use Rattle.theory_sound.specs.Accepted.{accepted-sound}
+use Rattle.theory_sound.proofs.Accepted.{accepted-sound}
 use Rattle.theory_sound.specs.Runs.{Answered}
 use Rattle.theory_codes.specs.Tables.{tables}
 use Rattle.out_images.specs.Rows.{Weighed}

@@ -15,7 +15,7 @@ use Rattle.rules.specs.Joint.{first_list, joint_rules, joint}
 use Rattle.rules.specs.Calls.{Run, run_to, choice_broken, no_such_train, single_run, stopped_run, whole_run, train_run}
 use Rattle.rules.specs.Demands.{Choice, passes, run_lists}
 use Rattle.rules.specs.Promised.{refusal_of, full, late_stop, missing_train}
-use Rattle.theory_sound.specs.Accepted.{accepted-sound}
+use Rattle.theory_sound.proofs.Accepted.{accepted-sound}
 use Rattle.theory_simulation.specs.Choices.{unbroken-choice}
 use Rattle.theory_trace.specs.Room.{room-askers}
 use Rattle.theory_demands.specs.Choices.{broken_no_choice}

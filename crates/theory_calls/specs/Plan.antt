@@ -19,7 +19,7 @@ use Rattle.theory_lists.specs.Items.{served_list}
 use Rattle.theory_lists.specs.Sums.{sum-keep, sum_same, sum-zero}
 use Rattle.theory_lists.specs.Tests.{or_false-first, or_false-second}
 use Rattle.theory_sound.specs.Facts.{Sound, Steps}
-use Rattle.theory_sound.specs.Accepted.{accepted-sound}
+use Rattle.theory_sound.proofs.Accepted.{accepted-sound}
 use Rattle.theory_sound.specs.Ways.{same_true, Apart, off_head, off_after, ahead_after}
 use Rattle.theory_sound.specs.Trains.{anywhere, way_apart}
 use Rattle.theory_simulation.specs.Keeping.{run_keeps}

@@ -14,8 +14,8 @@ use Rattle.rules.specs.Calls.{Run, stopped_run, whole_run, train_run, Memory, te
 use Rattle.rules.specs.Figures.{figures}
 use Rattle.rules.specs.Demands.{Choice, Simulates, arrives_in}
 use Rattle.rules.specs.Promised.{missing, counted_figures, counted_listing, refusal_of, full, late_stop, missing_train, RefusedWith, Full}
-use Rattle.theory_sound.specs.Window.{files-window}
-use Rattle.theory_sound.specs.Places.{files-told}
+use Rattle.theory_sound.proofs.Window.{files-window}
+use Rattle.theory_sound.proofs.Places.{files-told}
 use Rattle.theory_sound.specs.Verdicts.{refused-answer, answer-answer, refused-refused}
 use Rattle.theory_trace.specs.Room.{list-fits}
 use Rattle.theory_demands.specs.Demands.{demand_3, demand_2, demand_2_later, demand_2_not-arrived}

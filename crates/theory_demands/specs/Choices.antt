@@ -20,7 +20,7 @@ use Rattle.rules.specs.Demands.{Choice}
 use Rattle.theory_lists.specs.Every.{every_more, any_none}
 use Rattle.theory_lists.specs.Below.{every_below}
 use Rattle.theory_sound.specs.Facts.{Sound}
-use Rattle.theory_sound.specs.Accepted.{accepted-sound}
+use Rattle.theory_sound.proofs.Accepted.{accepted-sound}
 use Rattle.theory_sound.specs.Verdicts.{refused-answer, refused-refused}
 use Rattle.theory_simulation.specs.Covers.{covers-length}
 use Rattle.theory_simulation.specs.Start.{whole_length, choice-at}

@@ -8,13 +8,14 @@ use Rattle.rules.specs.Joint.{covers, choices, weight_of, weight, total, first_l
 use Rattle.rules.specs.Listing.{not_arrived_of}
 use Rattle.rules.specs.Demands.{Choice, Simulates, arrives_in, arrives_never, run_lists}
 use Rattle.theory_sound.specs.Facts.{Sound}
-use Rattle.theory_sound.specs.Accepted.{accepted-sound}
+use Rattle.theory_sound.proofs.Accepted.{accepted-sound}
 use Rattle.theory_lists.specs.Every.{Every, every_more}
 use Rattle.theory_simulation.specs.Serving.{Proper}
 use Rattle.theory_simulation.specs.Simulation.{Sets, joint-proper, joint-sets, simulation}
 use Rattle.theory_weights.specs.Choices.{weight-covers, weight-all}
 use Rattle.theory_weights.specs.Arrivals.{Seen, joint-seen, arrived-weight, arrived-later, not_arrived-weight}
-use Rattle.theory_weights.specs.Most.{Light, proper-light, lists-light}
+use Rattle.theory_weights.specs.Most.{Light, proper-light}
+use Rattle.theory_weights.proofs.Most.{lists-light}
 
 module _ (cs bk : List ℕ) (C : Case) (accepted : files cs bk ≡ answer C) where
   case-sound : Sound C

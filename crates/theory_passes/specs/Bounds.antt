@@ -1,6 +1,6 @@
 -- Bounds of the runs that code needs: each mark is of a train of the case, is outside or on that train's way, blocks nothing outside, and has a minute of at most 1,438.
 -- The first marks are so, and the marks with which an asker enters are so again. Assumes nothing but delays of one byte, which `ByteDelays` names.
-use Rattle.std.specs.Prelude.{◌≡◌, refl, Bool, not, ◌||◌, cond, ℕ, suc, ◌+◌, ◌≤◌, ◌<◌, get_or, set}
+use Rattle.std.specs.Prelude.{◌≡◌, refl, Bool, not, ◌||◌, cond, ℕ, ◌+◌, ◌≤◌, ◌<◌, get_or, set}
 use Rattle.std.proofs.Common.{sym, ◌∙◌, arith}
 use Rattle.std.proofs.Math.Path.{ap, subst}
 use Rattle.std.proofs.Math.Bool.{true, false, or-true}
@@ -9,10 +9,10 @@ use mathlib.Core.List.{List, [], ◌∷◌, ◌++◌, map, append-nil}
 use Rattle.std.proofs.Math.ListN.{length}
 use Rattle.rules.specs.Lists.{any, below}
 use Rattle.rules.specs.Files.{Stop, Case}
-use Rattle.rules.specs.Turns.{Place, same, Mark, block, Leg, leg, train_at, way, after, ahead, head_is, ended, asks, due_again, leaves_block, leaving, entered, State, state, Rules, Arrival}
+use Rattle.rules.specs.Turns.{Place, same, Mark, block, Leg, leg, train_at, way, after, ahead, head_is, ended, asks, due_again, leaves_block, leaving, entered, State, Rules, Arrival}
 use Rattle.rules.specs.Turns.Place.{outside}
 use Rattle.rules.specs.Single.{pair_at, first_arrival, waits}
-use Rattle.rules.specs.Joint.{Entry, entry, whole, first_list, check_list, joint_rules}
+use Rattle.rules.specs.Joint.{entry, whole, first_list}
 use Rattle.theory_sound.specs.Facts.{Sound}
 use Rattle.theory_sound.specs.Ways.{same_true, same_self}
 use Rattle.theory_sound.specs.Trains.{anywhere, way-planned, train-in_time, planned-low}
@@ -20,11 +20,9 @@ use Rattle.theory_lists.specs.Every.{Every, every_append, every_left, every_righ
 use Rattle.theory_lists.specs.Below.{every_below}
 use Rattle.theory_lists.specs.Items.{served_list}
 use Rattle.theory_simulation.specs.Places.{asked}
-use Rattle.theory_passes.specs.Passes.{pass, cleared, joint_passes}
-use Rattle.theory_passes.specs.Marks.{Marks, joint-marks}
+use Rattle.theory_passes.specs.Passes.{cleared}
+use Rattle.theory_passes.specs.Marks.{Marks}
 use Rattle.theory_passes.specs.Walk.{walk, walk_keeps}
-use Rattle.theory_passes.specs.Pass.{walk-list}
-use Rattle.theory_passes.specs.Runs as runs
 
 -- ---- the definitions
 
@@ -132,12 +130,7 @@ module _ (C : Case) (sound : Sound C) where
         walk_keeps C R t e (λ u w. AllBounded C R.mark u) (λ b a c w ask p. serve-bounded b a c ask p) k [] l [] v n
         (subst (AllBounded C R.mark) (sym (append-nil l)) q)
 
-  -- ---- passes
-
-  pub pass-bounded : (t : ℕ) → t ≤ C.head.last_minute → (e : Place) (k : ℕ) (s : State Entry) → AllBounded C (λ r. r.mark) s.list → AllBounded C (λ r. r.mark) (pass C t e k s).list
-  unfolding pass joint_rules
-  pass-bounded t h e k s q =
-      subst (AllBounded C (λ r. r.mark)) (walk-list C t e k s.list s.arrived s.met) (walk-bounded (joint_rules C) (joint-marks C) t h e k s.list s.arrived s.met q)
+  -- ---- the end of blocks
 
   pub cleared-bounded : {A : Type 0} (mark : A → Mark) (t : ℕ) (s : State A) → AllBounded C mark s.list → AllBounded C mark (cleared mark t s).list
   cleared-bounded mark t s q = every_keep (λ a. Bounded C (mark a)) (λ a. not (ended t (mark a))) s.list q
@@ -174,11 +167,3 @@ module _ (C : Case) (sound : Sound C) where
         (λ k h. every_map (λ d. d < length (get_or C.tables k [])) (λ r. Bounded C r.mark) (λ d. entry (waits C k d) (set (whole C) k (d ∷ [])))
         (λ d l. waits-bounded k d h) (below (length (get_or C.tables k []))) (every_below (length (get_or C.tables k []))))
         (below (length C.trains)) (every_below (length C.trains))
-
-    -- ---- the runs, up to the last minute
-
-    pub joint-bounded : (m : ℕ) → m ≤ C.head.last_minute → AllBounded C (λ r. r.mark) (joint_passes C m).list
-    unfolding joint_passes joint_rules
-    joint-bounded m h =
-        runs.minutes-keep C (joint_rules C) (pass C) C.head.last_minute (λ s. AllBounded C (λ r. r.mark) s.list)
-        pass-bounded (λ t l. cleared-bounded (λ r. r.mark) t) (suc m) (omega arith) (state (first_list C) [] (check_list C (first_list C))) first_list-bounded

@@ -11,5 +11,4 @@ pub mod Before
 pub mod Arrivals
 pub mod Alone
 pub mod Single
-pub mod Unknown
 pub mod Bounds

@@ -9,8 +9,8 @@ use Rattle.rules.specs.Files.{Case, files}
 use Rattle.rules.specs.Calls.{filled, weights_bytes}
 use Rattle.rules.specs.Plain.{Plain, plain_of, plain_run, part_run, LentWeights, weighed, weighing, plain_call, part_call}
 use Rattle.rules.specs.Promised.{PlainOutcome, PlainOutcome as outcome, refusal_of}
-use Rattle.theory_sound.specs.Places.{files-told}
-use Rattle.theory_sound.specs.Window.{files-window}
+use Rattle.theory_sound.proofs.Places.{files-told}
+use Rattle.theory_sound.proofs.Window.{files-window}
 
 -- ---- the answers
 

@@ -80,6 +80,26 @@ number-given no_train = (omega arith, λ e. omega arith)
 number-given stop_too_late = (omega arith, λ e. omega arith)
 number-given wrong_couple = (omega arith, λ e. omega arith)
 
+-- 0 is the number of no refusal
+number-some : (f : Fault) → 1 ≤ number f
+number-some overrun = omega arith
+number-some unknown_tag = omega arith
+number-some misplaced = omega arith
+number-some wrong_length = omega arith
+number-some wrong_count = omega arith
+number-some out_of_range = omega arith
+number-some wrong_ends = omega arith
+number-some wrong_path = omega arith
+number-some wrong_times = omega arith
+number-some wrong_table = omega arith
+number-some no_table = omega arith
+number-some no_room = omega arith
+number-some too_short = omega arith
+number-some wrong_choice = omega arith
+number-some no_train = omega arith
+number-some stop_too_late = omega arith
+number-some wrong_couple = omega arith
+
 -- no rule is broken
 abbrev pub Unbroken : List Rule → Type 0
 Unbroken rs = Every (λ r. r.broken ≡ false) rs
@@ -89,16 +109,8 @@ verdict-unbroken [] h = tt
 verdict-unbroken (r ∷ rs) h = go r.broken h (verdict-unbroken rs)
   where
     go : (b : Bool) → first_of b (number r.fault) (verdict rs) ≡ 0 → (verdict rs ≡ 0 → Unbroken rs) → (b ≡ false) × Unbroken rs
-    go true h i = absurd (omega (arith, (number-given r.fault).0))
+    go true h i = absurd (omega (arith, number-some r.fault))
     go false h i = (refl, i h)
-
-pub verdict-given : (rs : List Rule) → 1 ≤ verdict rs → Given (verdict rs)
-verdict-given [] h = absurd (omega arith)
-verdict-given (r ∷ rs) h = go r.broken h (verdict-given rs)
-  where
-    go : (b : Bool) → 1 ≤ first_of b (number r.fault) (verdict rs) → (1 ≤ verdict rs → Given (verdict rs)) → Given (first_of b (number r.fault) (verdict rs))
-    go true h i = number-given r.fault
-    go false h i = i h
 
 -- what holds of 0 and of the number of each rule holds of the verdict
 pub verdict_every : (P : ℕ → Type 0) (rs : List Rule) → P 0 → Every (λ r. P (number r.fault)) rs → P (verdict rs)

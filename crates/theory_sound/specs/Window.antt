@@ -9,8 +9,7 @@ use Rattle.std.proofs.lemmas.Bool.{not-false}
 use Rattle.rules.specs.Lists.{has}
 use Rattle.rules.specs.Refusals.{Rule, ◌when◌, verdict, Result, then, answer_unless}
 use Rattle.rules.specs.Refusals.Fault.{overrun, unknown_tag, misplaced, wrong_length, wrong_count}
-use Rattle.rules.specs.Files.{File, Kind, kind_of, spot, Contents, byte, kind, known, in_place, lengths, most, how_many, body_rules, size, body, field_rules, more, read_field, read_fields, empty, read, files}
-use Rattle.rules.specs.Files.File.{case, book}
+use Rattle.rules.specs.Files.{File, Kind, kind_of, spot, Contents, byte, kind, known, in_place, lengths, most, how_many, body_rules, size, body, field_rules, more, read_field, read_fields, empty, read}
 use Rattle.rules.specs.Files.Kind.{head, station, track, train, table, couple, no_field}
 use Rattle.theory_lists.specs.Every.{Every, has_every}
 use Rattle.theory_sound.specs.Verdicts.{Field, field-accepted, past, rest, with_field}
@@ -159,8 +158,3 @@ unfolding read
 read-window w f l h =
     sym (turns_suffice (suc (length l)) f (take w l) (omega (arith, length-take w l)))
     ∙ read_fields-window (suc (length l)) 0 w f l empty within-empty (omega arith)
-
--- the handed part of the two files decides
-pub files-window : (cs bk : List ℕ) → files (take 4096 cs) (take 4096 bk) ≡ files cs bk
-unfolding files
-files-window cs bk = rw (read-window 4096 case cs (omega arith), read-window 4096 book bk (omega arith))

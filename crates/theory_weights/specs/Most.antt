@@ -1,19 +1,17 @@
 -- What an entry weighs at most: its cover is a part of the whole, so it weighs at most all choices together, which is 100^n for n trains and so at most 10^14.
 -- So there is nothing for refusal 13, which 01 had for a heavier entry, and which is retired (request 10 of 02). Takes `Sound` as given, and assumes nothing else.
-use Rattle.std.specs.Prelude.{◌≡◌, false, List, ℕ, ◌*◌, ◌^◌, ◌≤◌, ltb}
+use Rattle.std.specs.Prelude.{◌≡◌, false, List, ◌*◌, ◌^◌, ◌≤◌, ltb}
 use Rattle.std.proofs.Math.Nat.{pow-le-pow_right}
 use Rattle.std.proofs.Common.{arith, le-ltb}
 use Rattle.rules.specs.Lists.{any, tick}
 use Rattle.rules.specs.Files.{Case}
-use Rattle.rules.specs.Joint.{Cover, whole, covers, choices, weight_of, weight, total, Entry, first_list, joint_rules}
-use Rattle.rules.specs.Demands.{run_lists}
+use Rattle.rules.specs.Joint.{Cover, whole, covers, choices, weight_of, weight, total, Entry}
 use Rattle.theory_sound.specs.Facts.{Sound}
 use Rattle.theory_lists.specs.Every.{Every, every_more, any_none}
 use Rattle.theory_lists.specs.Sums.{tick-times, sum_less}
 use Rattle.theory_simulation.specs.Parts.{Parts}
 use Rattle.theory_simulation.specs.Serving.{Proper}
 use Rattle.theory_weights.specs.Choices.{weight-covers, weight-all}
-use Rattle.theory_weights.specs.Kept.{joint-lists}
 
 -- the entry weighs at most 10^14
 abbrev pub Light : Case → Entry → Type 0
@@ -37,12 +35,6 @@ total-most C sound = pow-le-pow_right {n = 100} (omega arith) sound.few_trains
 -- and so does an entry whose cover is a part of the whole
 pub proper-light : (C : Case) → Sound C → (r : Entry) → Proper C r → Light C r
 proper-light C sound r h = omega (arith, weight-most C sound r.cover h, total-most C sound)
-
--- no entry weighs more, neither in the first list nor in the list after some asking entry was served
-pub lists-light : (C : Case) → Sound C → (m : ℕ) → Every (Every (Light C)) (run_lists C (joint_rules C) (first_list C) m)
-lists-light C sound m =
-    every_more (Every (Proper C)) (Every (Light C)) (every_more (Proper C) (Light C) (proper-light C sound)) (run_lists C (joint_rules C) (first_list C) m)
-    (joint-lists C sound m)
 
 -- of entries that weigh at most 10^14 none weighs more
 pub none_heavy : (C : Case) (rs : List Entry) → Every (Light C) rs → any (λ r. ltb (10 ^ 14) (weight C r.cover)) rs ≡ false

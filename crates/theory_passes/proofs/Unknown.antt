@@ -21,7 +21,7 @@ use Rattle.theory_codes.specs.Codes.{place_of}
 use Rattle.theory_codes.specs.Tables.{order}
 use Rattle.theory_passes.specs.Order.{order-known}
 use Rattle.theory_passes.specs.Passes.{asks_for, admits, goes, pass_train, cleared, element_passes, minute_passes, minutes_passes, single_passes}
-use Rattle.theory_passes.specs.Single.{single-passes}
+use Rattle.theory_passes.proofs.Single.{single-passes}
 
 module _ (C : Case) where
   -- the arrivals are all of trains of the case

@@ -1,0 +1,4 @@
+pub mod Verdicts
+pub mod Places
+pub mod Window
+pub mod Accepted
