@@ -23,6 +23,66 @@ def canon(name):
     return name.replace("_", "-").lower()
 
 
+def clauses():
+    """For each function of the crates the names of its clauses, by kind."""
+    found = {}
+    for folder, _, names in os.walk("crates"):
+        for name in names:
+            if not name.endswith(".rt") or "/out/" in folder:
+                continue
+            crate = folder.split("/")[1]
+            with open(os.path.join(folder, name), encoding="utf-8") as f:
+                text = re.sub(r"//[^\n]*", "", f.read())
+            for m in re.finditer(r"\bfn (\w+)", text):
+                end = re.compile(r"\n\{|\bfn ").search(text, m.end())
+                head = text[m.end():end.start() if end else len(text)]
+                kinds = {}
+                for kind, label in re.findall(r"\n\s*(requires|ensures) (?:(\w+) )?\{", head):
+                    kinds.setdefault(kind, []).append(label)
+                found[f"{crate}::{m[1]}"] = kinds
+    return found
+
+
+CLAUSES = {}
+
+
+def by_label(digits, labels):
+    """The path below clauses that had no names and stood in pairs, by their names; None for what is several of them."""
+    i = 0
+    digits = list(digits)
+    while digits and digits[0] == "1" and i < len(labels) - 1:
+        digits, i = digits[1:], i + 1
+    if i < len(labels) - 1:
+        if not digits or digits[0] != "0":
+            return None
+        digits = digits[1:]
+    return "." + ".".join([labels[i]] + digits)
+
+
+def labelled(text, head, labels):
+    """The text with the numbered clauses below a head by their names."""
+    if len(labels) < 2 or None in labels:
+        return text
+    lets = re.compile(r"let (" + IDENT + r") = " + re.escape(head) + r"((?:\.\d+)*) in[ \n]*")
+    at = 0
+    while m := lets.search(text, at):
+        digits = [d for d in m[2].split(".") if d]
+        new = by_label(digits, labels)
+        name = m[1]
+        below = re.compile(rf"(?<![\w.′'₀-₉-]){re.escape(name)}((?:\.\d+)+)(?!\d)")
+        rest = text[m.end():]
+        if new is None:
+            rest = below.sub(lambda k: (lambda b: head + b if b else k[0])(by_label(digits + k[1].split(".")[1:], labels)), rest)
+            # the name stays where the whole of it is meant
+            keep = re.search(rf"(?<![\w.′'₀-₉-]){re.escape(name)}(?![\w′'₀-₉-])", rest)
+            text = text[:m.start()] + (m[0] if keep else "") + rest
+            at = m.start() + (len(m[0]) if keep else 0)
+        else:
+            text = text[:m.start()] + f"let {name} = {head}{new} in" + m[0][m[0].index(" in") + 3:] + rest
+            at = m.end()
+    return re.sub(re.escape(head) + r"((?:\.\d+)+)(?!\d)", lambda k: (lambda b: head + b if b else k[0])(by_label(k[1].split(".")[1:], labels)), text)
+
+
 class Fn:
     def __init__(self, crate, name, table):
         self.crate, self.name, self.table = crate, name, table
@@ -118,6 +178,17 @@ class Fn:
             callee = next((p[3] for p in self.places.values() if p[2][1] == step and p[3]), None)
             names = self.table["params"].get(callee, [])
             out = re.sub(rf"(?<![\w.]){re.escape(name)}\.new((?:\.1)*)\.0(?!\d)", lambda m: f"{name}.new.{names[len(m[1]) // 2]}" if len(m[1]) // 2 < len(names) else m[0], out)
+        # clauses that have names now
+        if not CLAUSES:
+            CLAUSES.update(clauses())
+        own = CLAUSES.get(f"{self.crate}::{self.name.split('/')[-1].lstrip('+')}", {})
+        out = labelled(out, "c.requires", own.get("requires", []))
+        heads = {p[2][1]: p[3] for p in self.places.values() if p[3]}
+        for step, callee in heads.items():
+            labels = CLAUSES.get(callee.split("::")[0] + "::" + callee.split("::")[-1], {}).get("ensures", [])
+            out = labelled(out, f"c.{step}.ensures", labels)
+            for name in re.findall(r"let (" + IDENT + r") = c\." + re.escape(step) + r" in", out):
+                out = labelled(out, f"{name}.ensures", labels)
         # what the library says of a sum that wraps is a clause with a name
         out = re.sub(r"(c\.wrapping_add_u64\S*?\.ensures)(?![\w.-])", r"\1.value", out)
         # the variants that are left
