@@ -8,7 +8,8 @@ ghost use Rattle.file_input.specs.Reads.{Holds};
 ghost use Rattle.shift.specs.Shift.{Prints};
 
 use file_input::Reading;
-use libc::{STDERR_FILENO, STDIN_FILENO, STDOUT_FILENO};
+use std::fs::File;
+use std::rt::Files;
 
 // The text for a case and a book, at the start of the buffer, and its length.
 fn text_for<'a>(case: &'a [u8], book: &'a [u8], text: &mut [u8]) -> usize
@@ -18,61 +19,53 @@ fn text_for<'a>(case: &'a [u8], book: &'a [u8], text: &mut [u8]) -> usize
     let mut rows = [0u8; 16384];
     let mut weights = [0u8; 40320];
     let a = desk::lampreysong_listing(case, book, &mut rows, &mut weights, text);
-    if a.refusal != 0 {
+    let refused = a.refusal != 0;
+    if refused {
         return out_listing::refused_line(a.refusal as u64, a.file as u64, a.place as u64, text);
     }
     a.value as usize
 }
 
 // The text for the first bytes of two buffers, printed.
-fn print_for<'a>(case: &'a [u8], book: &'a [u8]) -> bool {
+fn print_for<'a, P: Print>(out: &P, case: &'a [u8], book: &'a [u8]) -> bool {
     let mut text = [0u8; 32768];
     let n = text_for(case, book, &mut text);
-    io::write_all(STDOUT_FILENO, &text[..n])
+    out.write_all(&text[..n]).is_ok()
 }
 
 // The book's bytes; none where it can't be opened.
-fn read_book(buf: &mut [u8]) -> Reading
+fn read_book<F: Files>(files: &F, buf: &mut [u8]) -> Reading
     ensures { Holds result buf.new }
 {
-    let fd = os::open_read(b"types.book");
-    if fd < 0 {
+    let Ok(mut file) = File::open(files, "types.book") else {
         return Reading::Whole(0);
-    }
-    let r = file_input::read_file(fd, buf);
-    libc::close(fd);
-    r
+    };
+    file_input::read_file(&mut file, buf)
 }
 
-fn case_unread() {
-    io::write_all(
-        STDERR_FILENO,
-        b"shift: the case on standard input could not be read to its end\n",
-    );
+fn case_unread<E: Print>(error: &E) {
+    let _ = error.write_all(b"shift: the case on standard input could not be read to its end\n");
 }
 
-fn book_unread() {
-    io::write_all(
-        STDERR_FILENO,
-        b"shift: types.book could not be read to its end\n",
-    );
+fn book_unread<E: Print>(error: &E) {
+    let _ = error.write_all(b"shift: types.book could not be read to its end\n");
 }
 
 // Prints the text for a case, with the book that is read now.
-fn print_with_book(case: &[u8]) {
-    let mut book = io::buffer();
-    let r = read_book(&mut book);
+fn print_with_book<F: Files, P: Print, E: Print>(files: &F, out: &P, error: &E, case: &[u8]) {
+    let mut book = [0u8; 4096];
+    let r = read_book(files, &mut book);
     let Reading::Whole(n) = r else {
-        return book_unread();
+        return book_unread(error);
     };
-    print_for(case, &book[..n]);
+    print_for(out, case, &book[..n]);
 }
 
-fn main() {
-    let mut case = io::buffer();
-    let r = file_input::read_file(STDIN_FILENO, &mut case);
+fn main(rt: HostRuntime) {
+    let mut case = [0u8; 4096];
+    let r = file_input::read_file(&mut rt.stdin(), &mut case);
     let Reading::Whole(n) = r else {
-        return case_unread();
+        return case_unread(&rt.stderr());
     };
-    print_with_book(&case[..n]);
+    print_with_book(&rt, &rt.stdout(), &rt.stderr(), &case[..n]);
 }
