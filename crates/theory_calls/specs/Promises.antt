@@ -23,7 +23,7 @@ use Rattle.theory_sound.specs.Runs.{Answered, stopped-answer, whole-answer, trai
 use Rattle.theory_calls.specs.Decided.{Decided, stopped_decided, whole_decided, train_decided}
 use Rattle.theory_calls.specs.Decided.Decided.{by_files, by_arguments, by_room, by_run}
 use Rattle.theory_calls.specs.Counted.{listing-counted, figures-counted}
-use Rattle.theory_calls.specs.Memory.{memory, cleared, written, call-short, call-refused, call-answered}
+use Rattle.theory_calls.specs.Memory.{cleared, written, call-short, call-refused, call-answered}
 
 -- ---- demand 1: all inputs, and every byte of lent memory
 
