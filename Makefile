@@ -11,7 +11,7 @@ CC := $(shell . tests/machine && echo $$cc)
 SHELL = /bin/bash
 BUILT = target/desk
 ENGINE = target/staticlib/libdesk.a
-PROVED := $(shell find crates -name '*.rt' -o -name '*.antt') crates.txt
+PROVED := $(shell find crates -name out -prune -o \( -name '*.rt' -o -name '*.antt' \) -print) crates.txt
 COMPILE = $(CC) -std=c99 $(CFLAGS) -pthread -Iinclude
 
 all: $(BUILT)/lampreysong $(BUILT)/small-desk

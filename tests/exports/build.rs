@@ -1,4 +1,4 @@
-//! Links the static library of the exports, which `rt staticlib desk` writes, into the programs that call them.
+//! Links the static library of the exports, which `tests/library` builds, into the programs that call them.
 
 fn main() {
     let here = std::env::var("CARGO_MANIFEST_DIR").expect("cargo names the package's folder");

@@ -10,18 +10,18 @@ use std::process::ExitCode;
 
 /// The definitions that computing has to see through, by the module that declares them.
 const OPENED: [(&str, &str); 8] = [
-    ("Files", "headOf, trackOf, stopOf, trainOf, pairOf, tableOf, coupleOf, kindOf, known, inPlace, lengths, most, howMany, headRules, stationRules, unknown, leads, trackRules, pathBroken, timesBroken, trainRules, tableRules, trackAt, coupled, unlike, coupleRules, bodyRules, fieldRules, more, endRules, readField, readFields, read, tablesOf, caseOf, files"),
-    ("Turns", "same, way, ahead, lastStation, elements, capacity, names, paired, ended, asks, sooner, dueAgain, leaving, entered, arriving, goesFirst, next, turns, visit, minute, minutes, runFrom"),
-    ("Single", "waits, firstMarks, trainsOn, partnerHeld, enters, serveTrain, singleRules, single as singleState, arrival"),
-    ("Joint", "common, without, inside, apart, outsides, choicesIn, whole, choices, weightOf, weight, total, firstList, carry, meets, meetsAcross, across, pieces, serveEntry, checkList, jointRules, joint, weightAt"),
-    ("Listing", "decimal, notArrived, trainLines, listing as listingOf"),
-    ("Figures", "plan, onTime, late, double, punctuality, shares, latenessSum, latenessWeight, figures"),
-    ("Calls", "choiceBroken, noSuchTrain, singleRun, stoppedRun, wholeRun, trainRun, setImage, coverImage, rowImage, textOf"),
-    ("Plain", "arrivalBy, adds, addedBy, plainRun, partRun"),
+    ("Files", "head_of, track_of, stop_of, train_of, pair_of, table_of, couple_of, kind_of, known, in_place, lengths, most, how_many, head_rules, station_rules, unknown, leads, track_rules, path_broken, times_broken, train_rules, table_rules, track_at, coupled, unlike, couple_rules, body_rules, field_rules, more, end_rules, read_field, read_fields, read, tables_of, case_of, files"),
+    ("Turns", "same, way, ahead, last_station, elements, capacity, names, paired, ended, asks, sooner, due_again, leaving, entered, arriving, goes_first, next, turns, visit, minute, minutes, run_from"),
+    ("Single", "waits, first_marks, trains_on, partner_held, enters, serve_train, single_rules, single as single_state, arrival"),
+    ("Joint", "common, without, inside, apart, outsides, choices_in, whole, choices, weight_of, weight, total, first_list, carry, meets, meets_across, across, pieces, serve_entry, check_list, joint_rules, joint, weight_at"),
+    ("Listing", "decimal, not_arrived_of, train_lines, listing as listing_of"),
+    ("Figures", "plan, on_time_of, late, double, punctuality, shares, lateness_sum, lateness_weight, figures"),
+    ("Calls", "choice_broken, no_such_train, single_run, stopped_run, whole_run, train_run, set_image, cover_image, row_image, text_of"),
+    ("Plain", "arrival_by, adds, added_by, plain_run, part_run"),
 ];
 
 /// What the doubles' computing has to see through besides.
-const FLOATS: &str = "div, ofInt, round, size, span, climb, units, odd, toBits";
+const FLOATS: &str = "div, of_int, round, size, span, climb, units, odd, to_bits";
 
 const ASKED: &str = "reading, single, run, listing, punctual, plain, part";
 
@@ -294,15 +294,15 @@ fn list(numbers: &[u64]) -> String {
 
 /// A module of a crate with one theorem a vector.
 fn module_text(of: &str, inputs: &[&Vec<Statement>]) -> String {
-    let mut text = String::from("use mathlib.Core.Path.{_≡_, refl}\nuse mathlib.Core.List.{List, [], _∷_}\nuse Prim.Native.Nat.{ℕ}\n");
+    let mut text = String::from("use Rattle.std.specs.Prelude.{◌≡◌, refl, List, [], ◌∷◌, ℕ}\n");
     let mut opened = format!("{ASKED}, {FLOATS}");
     writeln!(
         text,
-        "use lib.Ieee.{{{FLOATS}}}\nuse Rattle·{of}·specs.specs.Asked.{{{ASKED}}}"
+        "use Rattle.std.specs.Float.Ieee.{{{FLOATS}}}\nuse Rattle.{of}.specs.Asked.{{{ASKED}}}"
     )
     .expect("a string takes all");
     for (module, names) in OPENED {
-        writeln!(text, "use Rattle·rules.specs.{module}.{{{names}}}").expect("a string takes all");
+        writeln!(text, "use Rattle.rules.specs.{module}.{{{names}}}").expect("a string takes all");
         for name in names.split(", ") {
             opened.push_str(", ");
             opened.push_str(name.rsplit(" as ").next().unwrap_or(name));
