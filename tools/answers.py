@@ -132,7 +132,7 @@ class Fn:
             for new, old, path in arm[2]:
                 if canon(old) == want and tail[:len(path)] == path:
                     return None, ".".join([head, arm[0], new] + tail[len(path):])
-        if tail and tail[0] == "new" and p[3] and len(tail) > 1 and re.fullmatch(r"\d", tail[1]):
+        if tail and tail[0] in ("new", "auto") and p[3] and len(tail) > 1 and re.fullmatch(r"\d", tail[1]):
             n, j = 0, 1
             names = self.table["params"].get(p[3], [])
             while j < len(tail) and tail[j] == "1":
@@ -140,7 +140,7 @@ class Fn:
             if j < len(tail) and tail[j] == "0":
                 j += 1
             if n < len(names):
-                tail = ["new", names[n]] + tail[j:]
+                tail = [tail[0], names[n]] + tail[j:]
             else:
                 self.say(f"parameter {n} of {p[3]} in {'.'.join(fields)}")
         return None, ".".join([head, p[2][1]] + tail)
