@@ -9,7 +9,7 @@ use Rattle.std.proofs.lemmas.List.{length-map}
 use Rattle.rules.specs.Lists.{one, each, keep}
 use Rattle.rules.specs.Joint.{Cover, inside, apart, outsides, Piece, piece, carry, across}
 use Rattle.theory_lists.specs.Every.{Every}
-use Rattle.cut.specs.Cut.{Part, part, outs, turn, carried, crossed, cut_by, held_of, entering_of}
+use Rattle.cut.specs.Cut.{Part, part, outs, turn, carried, crossed, held_of, entering_of}
 use Rattle.cut.specs.Packed.{packed, packed_piece, Packable}
 use Rattle.cut.specs.Covers.{inside-packed, inside-sets, full-packed, outs_are, outsides-sets}
 
@@ -60,10 +60,6 @@ module _ {k : ℕ} (on' : ℕ → List Part) (on : Cover → List Piece)
       (rw (outs_are own h.0)
       (each-packed (crossed on' (map packed qs)) (across on qs) (crossed-across qs h.1) (outsides p (inside p q)) (outsides-sets own h.0)))
       (crossed-across qs h.1 p own))
-
-pub cut_by-pieces : {k : ℕ} (cap : ℕ) (ms es : List Cover) → Every (Packable k) ms → Every (Packable k) es → (p : Cover) → Packable k p
-    → cut_by (record { cap = cap; partner = map packed ms; own = map packed es }) (packed p) ≡ map packed_piece (across (carry cap es 0) ms p)
-cut_by-pieces cap ms es g h p own = crossed-across (carried cap (map packed es) 0) (carry cap es 0) (carried-carry cap es h 0) ms g p own
 
 -- ---- what is written, in the words of 01
 

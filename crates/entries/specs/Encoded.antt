@@ -26,7 +26,7 @@ use Rattle.theory_passes.specs.Elements.{ahead-known}
 use Rattle.cut.specs.Cut.{part, carried, crossed, Met, cut_by}
 use Rattle.cut.specs.Packed.{packed, packed_piece, Delays, Sets, Packable}
 use Rattle.cut.specs.Packed.Delays.{none, takes, skips}
-use Rattle.cut.specs.Bridge.{cut_by-pieces}
+use Rattle.cut.proofs.Bridge.{cut_by-pieces}
 use Rattle.rows.specs.Rows.{Row, row, ended_of, meets_of, met_of, swept_of}
 use Rattle.asking.specs.declared.Job.{Job}
 use Rattle.asking.specs.Ask.{next_of, asks_of, cap_of, partner_of, met_across, met_on, met_for, met_at, Suits}

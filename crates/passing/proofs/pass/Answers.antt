@@ -4,7 +4,7 @@ use native.Mathlib.Omega.{arith}
 use lib.Seq.{length-take-le}
 use Rattle.asking.specs.Ask.{stirs_of}
 use Rattle.serving.specs.Outputs.{two_bounds}
-use Rattle.serving.specs.Passing.{pass_law, pass-went}
+use Rattle.serving.proofs.Passing.{pass_law, pass-went}
 use borrow.Author.Rules.{rules}
 use Rattle.passing.proofs.pass.Goals as goal
 
