@@ -1,0 +1,5 @@
+-- `telling::train_figures` meets its contract: each field is the answer's, the figures' or 0. Assumes nothing.
+use Rattle.telling.proofs.train_figures.Goals as goal
+
+pub returns : goal.returns
+returns c = rw (c.number_of.ensures, c.value_of.ensures)
