@@ -20,8 +20,10 @@ use Rattle.rules.specs.Demands.{Choice}
 use Rattle.rules.specs.Promised.{Outcome, Answers, Cleared, Meant, TextMeant, counted_listing, counted_figures, refusal_of, late_stop, missing_train, RefusedWith, Full, Bytes}
 use Rattle.theory_calls.specs.Decided.{stopped_decided, whole_decided, train_decided, SingleDecided, single_decided}
 use Rattle.theory_calls.specs.Decided.{SingleDecided as singles}
-use Rattle.theory_calls.specs.Counted.{listing-counted, figures-counted}
-use Rattle.theory_calls.specs.Promises.{run-full, listing_full, figures-full, handed-single, handed-run, handed-part, handed-figures}
+use Rattle.theory_calls.specs.Counted.{listing-counted}
+use Rattle.theory_calls.proofs.Counted.{figures-counted}
+use Rattle.theory_calls.specs.Promises.{listing_full, figures-full, handed-single, handed-run, handed-part, handed-figures}
+use Rattle.theory_calls.proofs.Promises.{run-full}
 use Rattle.theory_calls.specs.Plan.{arrival-plan, arrival-window}
 use Rattle.out_listing.specs.Suffices.{listing-suffices}
 use Rattle.laying.specs.declared.Answer.{Answer}

@@ -9,13 +9,12 @@ use Rattle.rules.specs.Refusals.Result.{answer}
 use Rattle.rules.specs.Files.{Case, files}
 use Rattle.rules.specs.Joint.{choices, weight_of, total, joint}
 use Rattle.rules.specs.Listing.{decimal, line, total_word, minute_line, train_lines, listing}
-use Rattle.rules.specs.Figures.{punctuality, shares, lateness_weight, figures}
+use Rattle.rules.specs.Figures.{lateness_weight}
 use Rattle.theory_lists.specs.Below.{each-below-same}
 use Rattle.theory_lists.specs.Sums.{sum-keep}
 use Rattle.rules.specs.Demands.{arrives_never}
-use Rattle.rules.specs.Promised.{brought, counted_lines, counted_listing, counted_figures, weight_where}
-use Rattle.theory_weights.specs.Arrivals.{Seen, arrived-sum}
-use Rattle.theory_weights.specs.Figures.{on_time-weight, late-weight, lateness_sum-weight}
+use Rattle.rules.specs.Promised.{brought, counted_lines, counted_listing, weight_where}
+use Rattle.theory_weights.specs.Arrivals.{arrived-sum}
 use Rattle.theory_demands.specs.Demands.{seen, demand_2, demand_2_not-arrived}
 
 -- ---- the laws
@@ -36,13 +35,7 @@ module _ (cs bk : List ℕ) (C : Case) (accepted : files cs bk ≡ answer C) whe
       ap (λ (z : List ℕ). line (total_word ∷ decimal (total C) ∷ []) ++ z)
       (each-below-same _ (counted_lines C) (length C.trains) (λ k l. lines_counted k))
 
-  arrived-counted : (k : ℕ) → lateness_weight C (joint C C.head.last_minute).arrived k ≡ weight_where C (λ x. not (arrives_never C k x))
+  -- the weight that has arrived is that of the choices that arrive
+  pub arrived-counted : (k : ℕ) → lateness_weight C (joint C C.head.last_minute).arrived k ≡ weight_where C (λ x. not (arrives_never C k x))
   unfolding lateness_weight
   arrived-counted k = arrived-sum C (seen cs bk C accepted C.head.last_minute) k ∙ sym (sum-keep (weight_of C) (λ x. not (arrives_never C k x)) (choices C))
-
-  -- and so are its figures
-  pub figures-counted : (k L : ℕ) → figures C (joint C C.head.last_minute).arrived k L ≡ counted_figures C k L
-  unfolding figures punctuality shares counted_figures
-  figures-counted k L =
-      let s : Seen C C.head.last_minute = seen cs bk C accepted C.head.last_minute in
-      rw (on_time-weight C s k L, late-weight C s k L, lateness_sum-weight C s k, demand_2_not-arrived cs bk C accepted k, arrived-counted k)

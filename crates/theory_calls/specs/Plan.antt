@@ -1,22 +1,20 @@
 -- No arrival is before plan, so the lateness, which is a difference, never stops at 0.
 -- A train that stands somewhere is due no earlier than the plan leaves time for the rest of its way, and each step takes its full planned length. Assumes nothing.
-use Rattle.std.specs.Prelude.{◌≡◌, Bool, true, false, cond, List, [], ◌∷◌, ◌++◌, map, ℕ, ◌+◌, ◌-◌, ◌*◌, ◌≤◌, ◌<◌, length, get_or, leb, eqb}
+use Rattle.std.specs.Prelude.{◌≡◌, Bool, true, false, cond, List, [], ◌∷◌, ◌++◌, map, ℕ, ◌+◌, ◌-◌, ◌≤◌, ◌<◌, length, get_or, eqb}
 use Rattle.std.proofs.Math.Path.{refl, ap, subst}
-use Rattle.std.proofs.Common.{sym, ◌∙◌, le_refl, arith, eqb-true, leb-true, leb-false}
+use Rattle.std.proofs.Common.{sym, ◌∙◌, le_refl, arith, eqb-true}
 use Rattle.std.proofs.Math.Bool.{not}
 use Rattle.std.proofs.lemmas.Bool.{false≢true}
 use Rattle.std.proofs.Math.Option.{some}
-use Rattle.rules.specs.Lists.{tick, below, has}
+use Rattle.rules.specs.Lists.{below, has}
 use Rattle.rules.specs.Refusals.Result.{answer}
 use Rattle.rules.specs.Files.{Track, Stop, Case, last_of, repeats, files}
 use Rattle.rules.specs.Turns.{Place, same, Mark, block, Leg, leg, legs, train_at, way, after, ahead, head_is, planned_on, last_station, elements, ended, asks, due_again, leaves_block, leaving, entered, Arrival, arriving, served}
 use Rattle.rules.specs.Turns.Place.{outside, station}
 use Rattle.rules.specs.Single.{first_arrival, waits, first_marks, enters, serve_train, single_rules, single, minute_of, arrival}
-use Rattle.rules.specs.Joint.{choices, weight_of, joint, weight_at}
 use Rattle.rules.specs.Figures.{plan}
 use Rattle.theory_lists.specs.Every.{Every, every_append, every_left, every_right, every_one, every_keep, every_more, every_map, every_all, every_source, fails_every}
 use Rattle.theory_lists.specs.Items.{served_list}
-use Rattle.theory_lists.specs.Sums.{sum-keep, sum_same, sum-zero}
 use Rattle.theory_lists.specs.Tests.{or_false-first, or_false-second}
 use Rattle.theory_sound.specs.Facts.{Sound, Steps}
 use Rattle.theory_sound.proofs.Accepted.{accepted-sound}
@@ -25,9 +23,6 @@ use Rattle.theory_sound.specs.Trains.{anywhere, way_apart}
 use Rattle.theory_simulation.specs.Keeping.{run_keeps}
 use Rattle.theory_simulation.specs.Places.{Asked, asked}
 use Rattle.theory_weights.specs.Log.{single_logged}
-use Rattle.rules.specs.Demands.{arrives_in}
-use Rattle.theory_weights.specs.Arrivals.{arrives_in-arrival}
-use Rattle.theory_demands.specs.Demands.{demand_2, demand_2_later}
 
 -- ---- the rest of a way
 
@@ -219,19 +214,3 @@ module _ (cs bk : List ℕ) (C : Case) (accepted : files cs bk ≡ answer C) whe
       (every_more (λ v. v.minute ≤ C.head.last_minute) (λ v. v.who.train ≡ k → v.minute ≤ C.head.last_minute) (λ v h q. h)
       (single C x C.head.last_minute).arrived (single_logged C x C.head.last_minute))
       t e
-
-  -- so no weight is added for a minute before plan
-  pub weight-plan : (m k t : ℕ) → m ≤ C.head.last_minute → t < plan C k → weight_at C (joint C m).arrived k t ≡ 0
-  weight-plan m k t h l = go (leb t m) refl
-    where
-      never : (x : List ℕ) (b : Bool) → arrives_in C k t x ≡ b → tick b * weight_of C x ≡ 0
-      never x true q = absurd (omega (arith, arrival-plan x k t ((arrives_in-arrival C k t x).0 q)))
-      never x false q = omega arith
-
-      go : (b : Bool) → leb t m ≡ b → weight_at C (joint C m).arrived k t ≡ 0
-      go true q =
-          demand_2 cs bk C accepted m h k t (leb-true t m q)
-          ∙ sum-keep (weight_of C) (arrives_in C k t) (choices C)
-          ∙ sum_same _ (λ x. 0) (λ x. never x (arrives_in C k t x) refl) (choices C)
-          ∙ sum-zero (choices C)
-      go false q = demand_2_later cs bk C accepted m k t (leb-false t m q)

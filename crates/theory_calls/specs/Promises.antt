@@ -1,6 +1,6 @@
 -- The three demands over the calls, as definitions. The exported functions answer what `single_run`, `run_call`, `listing_call` and
 -- `figures_call` say, so what they promise (crate `promises`) follows from these theorems. Each proof cites the crates below. Assumes nothing.
-use Rattle.std.specs.Prelude.{◌≡◌, refl, Bool, true, false, cond, ◌↔◌, List, [], ℕ, ◌≤◌, ◌<◌, length, take, leb, ltb}
+use Rattle.std.specs.Prelude.{◌≡◌, refl, Bool, true, false, cond, ◌↔◌, List, [], ℕ, ◌≤◌, ◌<◌, length, take, leb}
 use Rattle.std.proofs.Common.{sym, ap, ◌∙◌, subst, arith}
 use Rattle.std.proofs.lemmas.Bool.{false≢true}
 use Rattle.rules.specs.Lists.{keep, sum}
@@ -13,16 +13,16 @@ use Rattle.rules.specs.Listing.{not_arrived_of, listing}
 use Rattle.rules.specs.Calls.{Run, stopped_run, whole_run, train_run, Memory, text_bytes, text_of, short, Lent, call, single_run, run_call, listing_call, figures_call}
 use Rattle.rules.specs.Figures.{figures}
 use Rattle.rules.specs.Demands.{Choice, Simulates, arrives_in}
-use Rattle.rules.specs.Promised.{missing, counted_figures, counted_listing, refusal_of, full, late_stop, missing_train, RefusedWith, Full}
+use Rattle.rules.specs.Promised.{missing, counted_listing, refusal_of, full, missing_train, RefusedWith, Full}
 use Rattle.theory_sound.proofs.Window.{files-window}
 use Rattle.theory_sound.proofs.Places.{files-told}
 use Rattle.theory_sound.specs.Verdicts.{refused-answer, answer-answer, refused-refused}
 use Rattle.theory_trace.specs.Room.{list-fits}
 use Rattle.theory_demands.specs.Demands.{demand_3, demand_2, demand_2_later, demand_2_not-arrived}
 use Rattle.theory_sound.specs.Runs.{Answered, stopped-answer, whole-answer, train-answer}
-use Rattle.theory_calls.specs.Decided.{Decided, stopped_decided, whole_decided, train_decided}
+use Rattle.theory_calls.specs.Decided.{Decided, whole_decided, train_decided}
 use Rattle.theory_calls.specs.Decided.Decided.{by_files, by_arguments, by_room, by_run}
-use Rattle.theory_calls.specs.Counted.{listing-counted, figures-counted}
+use Rattle.theory_calls.specs.Counted.{listing-counted}
 use Rattle.theory_calls.specs.Memory.{cleared, written, call-short, call-refused, call-answered}
 
 -- ---- demand 1: all inputs, and every byte of lent memory
@@ -112,12 +112,6 @@ not-arrived cs bk u e k =
     let a = whole-answer cs bk u e in
     ap (λ (s : State Entry). not_arrived_of u.of s.arrived k) a.state ∙ demand_2_not-arrived cs bk u.of a.accepted k
 
--- and in the figures, which are all counted over choices
-pub figures_are : (cs bk : List ℕ) (k : ℕ) (u : Run) → train_run cs bk k ≡ answer u → (L : ℕ) → figures u.of u.state.arrived k L ≡ counted_figures u.of k L
-figures_are cs bk k u e L =
-    let a = (train-answer cs bk k u e).0 in
-    ap (λ (s : State Entry). figures u.of s.arrived k L) a.state ∙ figures-counted cs bk u.of a.accepted k L
-
 -- the text of the listing is counted over choices, line by line
 pub text_is : (cs bk : List ℕ) (u : Run) → whole_run cs bk ≡ answer u → text_of u ≡ counted_listing u.of
 unfolding text_of
@@ -156,7 +150,7 @@ module _ {A : Type 0} (asked : ℕ) (value : Run → A) (text : Run → List ℕ
       go (by_run C a b p q) = absurd (false≢true (sym p ∙ sym (ap (λ (D : Case). full D (stop D)) (same C a)) ∙ f.passed))
 
   -- a call is refused 12 exactly then
-  call-full : RefusedWith 12 (call asked value text m r).result ↔ Full asked m cs bk arguments stop
+  pub call-full : RefusedWith 12 (call asked value text m r).result ↔ Full asked m cs bk arguments stop
   call-full = (λ h. forth (call_comes asked value text m r) h, λ f. back f)
     where
       forth : {l : Lent A} → Comes asked value text m r l → RefusedWith 12 l.result → Full asked m cs bk arguments stop
@@ -166,16 +160,6 @@ module _ {A : Type 0} (asked : ℕ) (value : Run → A) (text : Run → List ℕ
 
       back : Full asked m cs bk arguments stop → RefusedWith 12 (call asked value text m r).result
       back f = subst (λ (z : Lent A). RefusedWith 12 z.result) (sym (call-refused asked value text m r (refusal_of 12) f.suffices (full-refused f))) refl
-
--- the run to minute t
-pub run-full : (cs bk : List ℕ) (t : ℕ) (m : Memory) → RefusedWith 12 (run_call cs bk t m).result ↔ Full 0 m cs bk (late_stop t) (λ C. t)
-unfolding run_call
-run-full cs bk t m =
-    call-full 0 (λ u. length u.state.list) (λ u. []) m cs bk (late_stop t) (λ C. t) (λ C. other (ltb C.head.last_minute t)) (stopped_run cs bk t) (stopped_decided cs bk t)
-  where
-    other : (b : Bool) → ◌≡◌ {A = ℕ} (cond b 17 0) 12 → ⊥
-    other true h = omega arith
-    other false h = omega arith
 
 -- the listing
 pub listing_full : (cs bk : List ℕ) (m : Memory) → RefusedWith 12 (listing_call cs bk m).result ↔ Full text_bytes m cs bk (λ C. 0) (λ C. C.head.last_minute)
