@@ -2,7 +2,7 @@
 -- A number is read back byte by byte, a set bit by bit, and a list part by part, since all its parts are equally long. Assumes nothing.
 use Rattle.std.specs.Prelude.{◌≡◌, refl, Bool, true, false, cond, List, [], ◌∷◌, ◌++◌, map, ℕ, zero, suc, ◌+◌, ◌-◌, ◌*◌, ◌/◌, ◌%◌, ◌^◌, ◌≤◌, ◌<◌, length, take, drop, replicate, eqb}
 use Rattle.std.proofs.Common.{sym, ap, ap₂, ◌∙◌, append_assoc, mod-lt, mod-eq_of_lt, div-add-mod', add-mul, mul_assoc, mul_comm, mul-le-mul_right, suc-mul, pow-suc, arith, length-append, take_at, drop_at}
-use Rattle.std.proofs.Math.Nat.{mod-one, add-mul-mod_self_right}
+use Rattle.std.proofs.Math.Nat.{add-mul-mod_self_right}
 use Rattle.std.proofs.lemmas.List.{length-replicate, length-map}
 use Rattle.std.proofs.Math.Seq.{drop-append-add}
 use Rattle.rules.specs.Lists.{each, span, below}
@@ -52,16 +52,20 @@ high-low v m h =
           ap (λ (n : ℕ). v / m / 256 * n) (mul_comm 256 m),
         )
 
+-- the bytes say the number, but for what is above them
+number_above : (n v : ℕ) → number_in (bytes n v) + v / 256 ^ n * 256 ^ n ≡ v
+number_above zero v = omega arith
+number_above (suc n) v =
+    ap (λ (i : ℕ). v / 256 ^ n % 256 * 256 ^ i + number_in (bytes n v) + v / 256 ^ suc n * 256 ^ suc n) (length-bytes n v)
+    ∙ ap (λ (m : ℕ). v / 256 ^ n % 256 * 256 ^ n + number_in (bytes n v) + v / m * m) (pow-suc 256 n)
+    ∙ omega (arith, high-low v (256 ^ n) (pow_some n), div-add-mod' v (256 ^ n * 256), div-add-mod' v (256 ^ n), number_above n v)
+
 -- the bytes say the number, as far as so many bytes hold it
 number-bytes : (n v : ℕ) → number_in (bytes n v) ≡ v % 256 ^ n
-number-bytes zero v = sym (mod-one v)
-number-bytes (suc n) v =
-    ap₂ (λ (i j : ℕ). v / 256 ^ n % 256 * 256 ^ i + j) (length-bytes n v) (number-bytes n v)
-    ∙ high-low v (256 ^ n) (pow_some n)
-    ∙ ap (λ (m : ℕ). v % m) (sym (pow-suc 256 n))
+number-bytes n v = omega (arith, number_above n v, div-add-mod' v (256 ^ n))
 
 pub number_in_lem : (n v : ℕ) → v < 256 ^ n → number_in (bytes n v) ≡ v
-number_in_lem n v h = number-bytes n v ∙ mod-eq_of_lt {n = v} {m = 256 ^ n} h
+number_in_lem n v h = omega (arith, number_above n v, div-add-mod' v (256 ^ n), mod-eq_of_lt {n = v} {m = 256 ^ n} h)
 
 pub bytes_one : (n v w : ℕ) → v < 256 ^ n → w < 256 ^ n → bytes n v ≡ bytes n w → v ≡ w
 bytes_one n v w h k e = sym (number_in_lem n v h) ∙ ap number_in e ∙ number_in_lem n w k
@@ -246,5 +250,8 @@ weight_in_lem u h k t l m rest = image_in (weight_at u.of u.state.arrived) h k t
 
 pub weights-one : (u v : Run) → Weighable u → Weighable v → weights_image u ≡ weights_image v → (k t : ℕ) → k < most_trains → t < 720
     → weight_at u.of u.state.arrived k t ≡ weight_at v.of v.state.arrived k t
+unfolding weights_image
 weights-one u v h j e k t l m =
-    sym (weight_in_lem u h k t l m []) ∙ ap (λ (z : List ℕ). weight_in (z ++ []) k t) e ∙ weight_in_lem v j k t l m []
+    sym (image_in (weight_at u.of u.state.arrived) h k t l m [])
+    ∙ ap (λ (z : List ℕ). weight_in (z ++ []) k t) e
+    ∙ image_in (weight_at v.of v.state.arrived) j k t l m []

@@ -26,7 +26,7 @@ use Rattle.theory_calls.specs.Memory.{cleared, written, call-short, call-refused
 use Rattle.theory_calls.specs.Decided.{Decided}
 use Rattle.theory_calls.specs.Decided.{Decided as decided}
 use Rattle.desk.specs.Answers.{Gives}
-use Rattle.promises.specs.Images.{length-rows, entries_in_lem, length-weights, weight_in_lem}
+use Rattle.promises.specs.Images.{length-rows, entries_in_lem, length-weights, image_in}
 use Rattle.promises.specs.Shown.{list-shown, run_weighable}
 
 -- ---- what a call comes to
@@ -124,11 +124,11 @@ module _ (cs bk : List ℕ) (p : Bytes cs) (q : Bytes bk) (C : Case) (accepted :
       (replicate {A = ℕ} (rows_bytes - length (each row_image (joint C m).list)) 0 ++ drop rows_bytes before)
 
   weights_say : (before : List ℕ) (k t : ℕ) → k < most_trains → t < 720 → weight_in (filled weights_bytes (weights_image (run_at C m)) before) k t ≡ weight_at C (joint C m).arrived k t
-  unfolding filled
+  unfolding filled weights_image
   weights_say before k t l h =
       ap (λ (z : List ℕ). weight_in z k t)
       (append_assoc (weights_image (run_at C m)) (replicate {A = ℕ} (weights_bytes - length (weights_image (run_at C m))) 0) (drop weights_bytes before))
-      ∙ weight_in_lem (run_at C m) (run_weighable cs bk m (run_at C m) run-answered) k t l h
+      ∙ image_in (weight_at C (joint C m).arrived) (run_weighable cs bk m (run_at C m) run-answered) k t l h
       (replicate {A = ℕ} (weights_bytes - length (weights_image (run_at C m))) 0 ++ drop weights_bytes before)
 
   -- rows and weights filled with the run's images mean what is promised
