@@ -9,7 +9,7 @@ ghost use Rattle.file_viewer.specs.Viewing.{place_after, given_at, viewing};
 
 use file_fields::Field;
 
-#[derive(Drop)]
+#[derive(Clone, Copy)]
 pub struct Viewer<'a> {
     pub bytes: &'a [u8],
     pub place: usize,
