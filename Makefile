@@ -1,7 +1,7 @@
 # Builds the planning desk: `make` makes all of it, below target/. ./lampreysong runs it, and makes it first where it is not made.
 #   make            the proved library for C, the programs shift and lampreysong, and the small desk of examples/
 #   make install    lampreysong and its man page, below PREFIX
-#   make check      the gate: every proof and every test, which takes half an hour and more
+#   make check      the gate: every proof and every test; docs/DECISIONS.md, 106, says how long it takes
 #   make clean      takes away what the C compiler made; what is proved stays
 PREFIX = /usr/local
 CFLAGS = -O2 -Wall -Wextra -Wpedantic -Werror
