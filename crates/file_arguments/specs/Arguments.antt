@@ -5,6 +5,8 @@ use Rattle.rules.specs.Refusals.{Result, ◌when◌}
 use Rattle.rules.specs.Refusals.Fault.{wrong_choice, no_train, stop_too_late}
 use Rattle.rules.specs.Files.{Case, byte}
 use Rattle.rules.specs.Calls.{case_for, choice_broken, no_such_train}
+use Rattle.file_fields.specs.declared.refusals.Fault.{Fault}
+use Rattle.file_fields.specs.declared.refusals.Refusal.{Refusal}
 use Rattle.file_bodies.specs.Bodies.{any_below}
 use Rattle.file_lookup.specs.Lookup.{table_bytes, train_place}
 
@@ -27,3 +29,7 @@ past_table cs bk x k = leb ((length (table_bytes cs bk (byte cs (train_place cs 
 -- the choice x has not n indices, or one past its train's table
 unfoldable pub choice_wrong : List ℕ → List ℕ → ℕ → List ℕ → Bool
 choice_wrong cs bk n x = cond (eqb (length x) n) (any_below (past_table cs bk x) n) true
+
+-- the code's refusal that points nowhere
+abbrev pub nowhere : Fault → Refusal
+nowhere f = record { fault = f; file = 0; place = 0 }

@@ -18,8 +18,8 @@ use Rattle.file_fields.specs.At.{word-drop}
 use Rattle.file_bodies.specs.Search.{any_same, any_below_lem}
 use Rattle.file_reader.specs.Stands.{head-of}
 use Rattle.file_lookup.specs.declared.Sizes.{Sizes}
-use Rattle.file_lookup.specs.declared.Files.{Files}
-use Rattle.file_lookup.specs.declared.Files.TheVariants.{Sound, Unsound}
+use Rattle.file_lookup.specs.Told.{Files}
+use Rattle.file_lookup.specs.Told.Files.{Sound, Unsound}
 use Rattle.file_lookup.specs.Answers.{sizes_of, files_of}
 use Rattle.file_lookup.specs.Laws.{sound_unsound}
 use Rattle.file_lookup.specs.Lookup.{table_bytes, train_place}

@@ -3,18 +3,11 @@ use mathlib.Core.Path.{◌≡◌, ap, ap₂, sym, ◌∙◌}
 use mathlib.Core.List.{List}
 use Prim.Native.Nat.{ℕ, ◌+◌, ◌-◌, ◌≤◌, ◌<◌}
 use native.Mathlib.Omega.{arith}
-use lib.ListN.{length, get_or, get_or-eq_default}
+use lib.ListN.{length, get_or}
 use Rattle.rules.specs.Files.{word}
 use Rattle.file_fields.specs.declared.Field.TheVariants.{Whole, Ended, Overrun}
 use Rattle.file_fields.specs.Fields.{field_of, field_at}
 use Rattle.file_fields.specs.At as at
-
--- past the end a word is 0
-pub word-past : (l : List ℕ) (i : ℕ) → length l ≤ i → word l i ≡ 0
-word-past l i h =
-    let a = get_or-eq_default l 0 {n = i} h in
-    let b = get_or-eq_default l 0 {n = i + 1} (omega arith) in
-    omega arith
 
 pub field-ended : (l : List ℕ) (i : ℕ) → length l ≤ i → field_at l i ≡ Ended
 field-ended l i h = ap field_of (at.viewed-ended l i h)

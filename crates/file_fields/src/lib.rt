@@ -10,6 +10,7 @@ ghost use Rattle.rules.specs.Viewer.{viewed};
 ghost use Rattle.file_fields.specs.Fields.{field_of};
 
 // What stands at a place of a file: a whole field with its tag, its body's length and where it ends; the file's end; or refusal 1.
+// The paper's viewer gives one of these three (`View`, rules/specs/Viewer), so this does: `Ok(None)` for the file's end would say less than `Ended`.
 #[derive(Clone, Copy)]
 pub enum Field {
     Whole { tag: usize, size: usize, end: usize },
@@ -17,30 +18,18 @@ pub enum Field {
     Overrun,
 }
 
-fn wide(x: u8) -> usize
-    ensures { (result ≡ x) × (result < 256) }
-{
-    x as usize
-}
-
 // The byte at i, and 0 past the end.
 pub fn byte(b: &[u8], i: usize) -> usize
     ensures { (result ≡ get_or b.now i 0) × (result < 256) }
 {
-    if i < b.len() {
-        return wide(b[i]);
-    }
-    0
+    b.get(i).copied().map_or(0, usize::from)
 }
 
 // Two bytes from i on, the higher first, each 0 past the end.
 pub fn word(b: &[u8], i: usize) -> usize
     ensures { (result ≡ word b.now i) × (result < 65536) }
 {
-    if i < b.len() {
-        return byte(b, i) * 256 + byte(b, i + 1);
-    }
-    0
+    byte(b, i) * 256 + byte(b, i.saturating_add(1))
 }
 
 // The field at a place; it judges no tag and no length.

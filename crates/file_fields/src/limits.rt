@@ -1,4 +1,5 @@
 // The tags of the fields and how many of each a file may have.
+// A tag stays a number: `field_at` and `nth` give any that a file has, as `viewed` says, and `bad_length` and `frame_verdict` judge all numbers.
 pub const HEAD: usize = 1;
 
 pub const STATION: usize = 2;

@@ -1,34 +1,43 @@
-// The refusal numbers of the paper, each named once. 13 is retired and not used again.
-pub const OVERRUN: usize = 1;
+// What can be wrong with a case, a book, the arguments of a call or its lent memory, and what a run can meet, each with its number in the paper.
+// 13 is retired and not used again.
+ghost use Rattle.std.specs.Prelude.{◌≡◌};
+ghost use Rattle.file_fields.specs.Faults.{number_of};
 
-pub const UNKNOWN_TAG: usize = 2;
+#[derive(Clone, Copy, PartialEq, Eq)]
+pub enum Fault {
+    Overrun = 1,
+    UnknownTag = 2,
+    Misplaced = 3,
+    WrongLength = 4,
+    WrongCount = 5,
+    OutOfRange = 6,
+    WrongEnds = 7,
+    WrongPath = 8,
+    WrongTimes = 9,
+    WrongTable = 10,
+    NoTable = 11,
+    NoRoom = 12,
+    TooShort = 14,
+    WrongChoice = 15,
+    NoTrain = 16,
+    StopTooLate = 17,
+    WrongCouple = 18,
+}
 
-pub const MISPLACED: usize = 3;
+impl Fault {
+    // Its number in the paper.
+    pub fn number(self) -> u16
+        ensures { result ≡ number_of self }
+    {
+        self as u16
+    }
+}
 
-pub const WRONG_LENGTH: usize = 4;
-
-pub const WRONG_COUNT: usize = 5;
-
-pub const OUT_OF_RANGE: usize = 6;
-
-pub const WRONG_ENDS: usize = 7;
-
-pub const WRONG_PATH: usize = 8;
-
-pub const WRONG_TIMES: usize = 9;
-
-pub const WRONG_TABLE: usize = 10;
-
-pub const NO_TABLE: usize = 11;
-
-pub const NO_ROOM: usize = 12;
-
-pub const TOO_SHORT: usize = 14;
-
-pub const WRONG_CHOICE: usize = 15;
-
-pub const NO_TRAIN: usize = 16;
-
-pub const STOP_TOO_LATE: usize = 17;
-
-pub const WRONG_COUPLE: usize = 18;
+// The refusal of a case, a book or the arguments of a call: what is wrong, in which file (0 case, 1 book), and at which place of it.
+// The file stays a number: so the record Refusal of rules/specs/Refusals, `told` in file_lookup and the answer that C reads have it.
+#[derive(Clone, Copy, PartialEq, Eq)]
+pub struct Refusal {
+    pub fault: Fault,
+    pub file: usize,
+    pub place: usize,
+}

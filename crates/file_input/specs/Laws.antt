@@ -7,11 +7,9 @@ use Rattle.std.specs.Counts.{IsPrefixLen, clamp_len}
 use Rattle.std.specs.IoError.{error_kind}
 use Rattle.std.specs.declared.io.Error.{Error}
 use Rattle.std.specs.declared.io.ErrorKind.{ErrorKind}
-use Rattle.file_input.specs.Reads.{step_of, Means, reading_of, Fitting, Holds}
-use Rattle.file_input.specs.declared.Step.{Step}
-use Rattle.file_input.specs.declared.Step.TheVariants.{More, Ended, Broken}
-use Rattle.file_input.specs.declared.Reading.{Reading}
-use Rattle.file_input.specs.declared.Reading.TheVariants.{Whole}
+use Rattle.file_input.specs.Reads.{Step, step_of, Means, Reading, reading_of, Fitting, Holds}
+use Rattle.file_input.specs.Reads.Step.{More, Ended, Broken}
+use Rattle.file_input.specs.Reads.Reading.{Whole}
 
 -- ---- what a read's answer means
 

@@ -4,10 +4,30 @@ use Rattle.std.specs.Counts.{IsPrefixLen}
 use Rattle.std.specs.IoError.{error_kind}
 use Rattle.std.specs.declared.io.Error.{Error}
 use Rattle.std.specs.declared.io.ErrorKind.{ErrorKind}
-use Rattle.file_input.specs.declared.Step.{Step}
-use Rattle.file_input.specs.declared.Step.TheVariants.{More, Ended, Broken}
-use Rattle.file_input.specs.declared.Reading.{Reading}
-use Rattle.file_input.specs.declared.Reading.TheVariants.{Whole, Failed}
+use Rattle.std.specs.declared.ops.ControlFlow.{ControlFlow}
+use Rattle.std.specs.declared.ops.ControlFlow.TheVariants.{Continue, Break}
+use Rattle.file_input.specs.declared.ReadFailed.{ReadFailed}
+
+-- what one read came to: so many bytes, none of them where a signal came first; the end of the file; or a failure
+pub data Step : Type 0 where
+  More : ℕ → Step
+  Ended : Step
+  Broken : Step
+
+-- what reading a file came to: so many bytes, up to the file's end or as many as there was room for; or a read failed before that
+pub data Reading : Type 0 where
+  Whole : ℕ → Reading
+  Failed : Reading
+
+-- the same, from the code's answers
+abbrev pub told_step : ControlFlow (Result (Unit {0}) ReadFailed) ℕ → Step
+told_step (Continue n) = More n
+told_step (Break (Ok u)) = Ended
+told_step (Break (Err e)) = Broken
+
+abbrev pub told : Result ℕ ReadFailed → Reading
+told (Ok n) = Whole n
+told (Err e) = Failed
 
 -- a read that was handed room for n bytes: below 0 it was interrupted or failed, 0 is the end of the file, and else it brought so many bytes
 unfoldable pub step_of : ℤ → Bool → ℕ → Step

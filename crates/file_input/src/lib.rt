@@ -3,90 +3,78 @@
 
 ghost use Rattle.std.specs.Prelude.{◌≡◌, ◌≤◌, ◌↔◌, IsTrue, length};
 ghost use Rattle.std.specs.IoError.{error_kind};
-ghost use Rattle.file_input.specs.Reads.{Means, reading_of, Fitting, Holds};
+ghost use Rattle.std.specs.declared.ops.ControlFlow.TheVariants.{Break};
+ghost use Rattle.file_input.specs.Reads.{Means, told_step, told, reading_of, Fitting, Holds};
 
 use std::io;
 use std::io::{ErrorKind, Read};
+use std::ops::ControlFlow;
 
-// What one read came to: so many bytes, none of them where a signal came first; the end of the file; or a failure.
-#[derive(Clone, Copy)]
-enum Step {
-    More(usize),
-    Ended,
-    Broken,
-}
-
-// What reading a file came to: so many bytes, up to the file's end or as many as there was room for; or a read failed before that.
-#[derive(Clone, Copy)]
-pub enum Reading {
-    Whole(usize),
-    Failed,
-}
+// A read failed before the file's end, and before the buffer was full.
+#[derive(Clone, Copy, Debug, PartialEq, Eq)]
+pub struct ReadFailed;
 
 // Whether a signal came before the read brought a byte.
-fn was_interrupted(e: io::Error) -> bool
-    ensures { IsTrue result ↔ (error_kind e ≡ ErrorKind.Interrupted) }
+fn was_interrupted(e: &io::Error) -> bool
+    ensures { IsTrue result ↔ (error_kind e.now ≡ ErrorKind.Interrupted) }
 {
     e.kind() == ErrorKind::Interrupted
 }
 
-// What a read's answer means. Only an answer of 0 is the end of the file.
-fn step_of(got: io::Result<usize>, buf: &[u8]) -> Step
-    ensures { Means got (length buf.now) result }
+// What a read's answer means: to read on after so many bytes, none of them where a signal came first; or the end of the file, or a failure. Only
+// an answer of 0 is the end of the file.
+fn step_of(got: io::Result<usize>, buf: &[u8]) -> ControlFlow<Result<(), ReadFailed>, usize>
+    ensures { Means got (length buf.now) (told_step result) }
 {
-    let count = match got {
-        Ok(count) => count,
-        Err(e) => {
-            if was_interrupted(e) {
-                return Step::More(0);
+    match got {
+        Ok(count) => {
+            let n = count.min(buf.len());
+            if n == 0 {
+                ControlFlow::Break(Ok(()))
+            } else {
+                ControlFlow::Continue(n)
             }
-            return Step::Broken;
         }
-    };
-    let n = count.min(buf.len());
-    if n == 0 {
-        return Step::Ended;
+        Err(e) if was_interrupted(&e) => ControlFlow::Continue(0),
+        Err(_) => ControlFlow::Break(Err(ReadFailed)),
     }
-    Step::More(n)
 }
 
 // One read into the buffer, from a place on.
-fn read_some<R: Read>(input: &mut R, buf: &mut [u8], from: usize) -> Step
+fn read_some<R: Read>(
+    input: &mut R,
+    buf: &mut [u8],
+    from: usize,
+) -> ControlFlow<Result<(), ReadFailed>, usize>
     requires { from ≤ length buf.old }
-    ensures { Fitting result from (length buf.new) }
+    ensures { Fitting (told_step result) from (length buf.new) }
 {
     let rest = &mut buf[from..];
     let got = input.read(rest);
     step_of(got, rest)
 }
 
-// What the reading came to, after so many bytes, at a step that brought no more.
-fn reading_of(last: Step, done: usize) -> Reading
-    ensures { result ≡ reading_of last done }
+// What the reading came to, after so many bytes, at a read that brought no more.
+fn reading_of(last: Result<(), ReadFailed>, done: usize) -> Result<usize, ReadFailed>
+    ensures { told result ≡ reading_of (told_step (Break last)) done }
 {
-    match last {
-        Step::More(_) => Reading::Failed,
-        Step::Ended => Reading::Whole(done),
-        Step::Broken => Reading::Failed,
-    }
+    last?;
+    Ok(done)
 }
 
-// Reads until the file ends or the buffer is full. A proved loop ends: it counts its turns down from a number that no input uses up.
-pub fn read_file<R: Read>(input: &mut R, buf: &mut [u8]) -> Reading
-    ensures { Holds result buf.new }
+// Reads until the file ends or the buffer is full. A proved loop ends: its turns are counted, and no input uses them up.
+pub fn read_file<R: Read>(input: &mut R, buf: &mut [u8]) -> Result<usize, ReadFailed>
+    ensures { Holds (told result) buf.new }
 {
     let mut done = 0;
-    let mut turns = u64::MAX;
-    while turns > 0 {
+    for _ in 0..u64::MAX {
         if done == buf.len() {
-            return Reading::Whole(done);
+            return Ok(done);
         }
-        let s = read_some(input, buf, done);
-        let Step::More(n) = s else {
-            return reading_of(s, done);
-        };
-        done += n;
-        turns -= 1;
+        match read_some(input, buf, done) {
+            ControlFlow::Continue(n) => done += n,
+            ControlFlow::Break(last) => return reading_of(last, done),
+        }
     }
-    Reading::Failed
+    Err(ReadFailed)
 }

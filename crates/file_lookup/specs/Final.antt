@@ -1,6 +1,7 @@
 -- What is promised of case and book together: the code's four ways to answer are those of 01.
 -- Each way follows from the two readings and from where the walk for a train without a table ends. Assumes nothing.
-use Rattle.std.specs.Prelude.{◌≡◌, Bool, List, ℕ, ◌≤◌, ◌<◌, length, ltb}
+use Rattle.std.specs.Prelude as rt
+use Rattle.std.specs.Prelude.{◌≡◌, Bool, List, ℕ, ◌≤◌, ◌<◌, length, ltb, Option, Some, None, Ok, Err}
 use Rattle.std.proofs.Math.Path.{refl, ap, sym}
 use Rattle.std.proofs.Common.{◌∙◌, lt-ltb, le-ltb}
 use Rattle.std.proofs.Math.Bool.{true, false, cond}
@@ -8,16 +9,22 @@ use Rattle.rules.specs.Refusals.{Result, then, refuse}
 use Rattle.rules.specs.Refusals.Result.{refused, answer}
 use Rattle.rules.specs.Files.{spot, Contents, Case, read, case_of, lacking, none_lacking, files}
 use Rattle.rules.specs.Files.File.{case, book}
+use Rattle.file_fields.specs.declared.refusals.Refusal.{Refusal}
+use Rattle.file_fields.specs.Faults.{number_of}
 use Rattle.file_reader.specs.declared.Counts.{Counts}
-use Rattle.file_reader.specs.declared.Reading.{Reading}
-use Rattle.file_reader.specs.declared.Reading.TheVariants.{Accepted, Refused}
+use Rattle.file_reader.specs.declared.Misread.{Misread}
+use Rattle.file_reader.specs.Told as reader
+use Rattle.file_reader.specs.Told.{Reading}
+use Rattle.file_reader.specs.Told.Reading.{Accepted, Refused}
 use Rattle.file_reader.specs.Answers.{counts_of, reading_of}
 use Rattle.file_reader.specs.Laws.{accepted-refused}
 use Rattle.file_reader.specs.Final.{refused-file}
 use Rattle.file_lookup.specs.declared.Sizes.{Sizes}
-use Rattle.file_lookup.specs.declared.Files.TheVariants.{Sound, Unsound}
-use Rattle.file_lookup.specs.Lookup.{table_bytes, lacking_place}
-use Rattle.file_lookup.specs.Answers.{files_of, of_file, Looked}
+use Rattle.file_lookup.specs.Told.Files.{Sound, Unsound}
+use Rattle.file_lookup.specs.Told.{told}
+use Rattle.file_lookup.specs.Lookup.{table_bytes, lacking_place, found}
+use Rattle.file_lookup.specs.Search.{found-some, found-none}
+use Rattle.file_lookup.specs.Answers.{files_of, of_file, in_file, Looked}
 use Rattle.file_lookup.specs.Agree.{table-first, lacking_agrees}
 
 pub looked : {cs bk : List ℕ} {t : ℕ} {b : List ℕ} → b ≡ table_bytes cs bk t → Looked cs bk t b
@@ -30,6 +37,17 @@ sizes_in s = record { stations = s.stations; tracks = s.tracks; trains = s.train
 -- 11 by train number, of contents that were accepted
 abbrev by_types : Contents → Contents → Result Case
 by_types c k = none_lacking (lacking c k) (case_of c k)
+
+-- a refused reading by the code, and an accepted one
+in_file-err : (f : ℕ) (a : rt.Result Counts Misread) (e : Refusal) → in_file f a ≡ Err e → (n : ℕ) × (i : ℕ) × (reader.told a ≡ Refused n i) × (told (Err e) ≡ of_file f (reader.told a))
+in_file-err f (Ok c) e p = cc p
+in_file-err f (Err m) e p =
+    let q : ◌≡◌ {A = Refusal} (record { fault = m.fault; file = f; place = m.place }) e = cc in
+    (number_of m.fault, m.place, refl, ap (λ (x : Refusal). Unsound (number_of x.fault) x.file x.place) (sym q))
+
+in_file-ok : (f : ℕ) (a : rt.Result Counts Misread) (c : Counts) → in_file f a ≡ Ok c → reader.told a ≡ Accepted c
+in_file-ok f (Ok d) c p = let q : d ≡ c = cc in ap Accepted q
+in_file-ok f (Err m) c p = cc p
 
 module _ (cs bk : List ℕ) where
   -- the case is refused
@@ -90,3 +108,23 @@ module _ (cs bk : List ℕ) where
       -- both files stand
       pub files-sound : length cs ≤ i → Sound (sizes_in s) ≡ files_of (files cs bk)
       files-sound k = sym (both false (le-ltb i (length cs) k))
+
+  -- ---- the code's answers
+
+  module _ (a : rt.Result Counts Misread) (e : reader.told a ≡ reading_of (read case cs)) where
+    pub told-case : {r : rt.Result Counts Refusal} {x : Refusal} → r ≡ in_file 0 a → r ≡ Err x → told (Err x) ≡ files_of (files cs bk)
+    told-case {r} {x} p q = let w = in_file-err 0 a x (sym p ∙ q) in w.3 ∙ files-case e w.2
+
+    module _ {c : Counts} {r : rt.Result Counts Refusal} (p : r ≡ in_file 0 a) (q : r ≡ Ok c) (b : rt.Result Counts Misread) (f : reader.told b ≡ reading_of (read book bk)) where
+      pub told-book : {s : rt.Result Counts Refusal} {x : Refusal} → s ≡ in_file 1 b → s ≡ Err x → told (Err x) ≡ files_of (files cs bk)
+      told-book {s} {x} g h = let w = in_file-err 1 b x (sym g ∙ h) in w.3 ∙ files-book e (in_file-ok 0 a c (sym p ∙ q)) f w.2
+
+      module _ {d : Counts} {s : rt.Result Counts Refusal} (g : s ≡ in_file 1 b) (h : s ≡ Ok d) {o : Option ℕ} (l : o ≡ found (length cs) (lacking_place cs bk)) where
+        pub told-types : {i : ℕ} → o ≡ Some i → Unsound 11 0 i ≡ files_of (files cs bk)
+        told-types {i} m =
+            let w = found-some (length cs) (lacking_place cs bk) i (sym l ∙ m) in
+            files-types e (in_file-ok 0 a c (sym p ∙ q)) f (in_file-ok 1 b d (sym g ∙ h)) (sym w.0) w.1
+
+        pub told-sound : o ≡ None → Sound (sizes_in c) ≡ files_of (files cs bk)
+        told-sound m =
+            files-sound e (in_file-ok 0 a c (sym p ∙ q)) f (in_file-ok 1 b d (sym g ∙ h)) refl (found-none (length cs) (lacking_place cs bk) (sym l ∙ m))

@@ -1,7 +1,10 @@
 pub mod Lookup
+pub mod Told
 pub mod Laws
 pub mod Answers
 pub mod Agree
+pub mod Search
 pub mod Final
 pub mod Trains
 pub mod Tables
+pub mod Same

@@ -1,6 +1,7 @@
 -- The table of a type, by walking over a file's whole fields, and the first train whose type has none: forms that run by offset.
 -- Assumes nothing: these are definitions.
-use Rattle.std.specs.Prelude.{Bool, false, cond, List, ℕ, zero, suc, ◌+◌, ◌-◌, length, get_or, leb, ltb, eqb}
+use Rattle.std.specs.Prelude.{◌≡◌, ◌≤◌, Bool, false, cond, List, ℕ, zero, suc, ◌+◌, length, get_or, leb, ltb, eqb, Option, Some, None}
+use Rattle.std.specs.List.{slice_get}
 use Rattle.rules.specs.Files.{byte}
 use Rattle.rules.specs.Lists.{keep}
 use Rattle.file_fields.specs.Fields.{past, whole, body_at, places}
@@ -12,6 +13,18 @@ seek test (suc n) l i = cond (whole l i) (cond (test i) i (seek test n l (past l
 
 unfoldable pub first_place : (ℕ → Bool) → List ℕ → ℕ
 first_place test l = seek test (suc (length l)) l 0
+
+-- the field that passes the test after n others that do, where there is one
+unfoldable pub nth_place : (ℕ → Bool) → List ℕ → ℕ → Option ℕ
+nth_place test l n = slice_get (keep test (places l)) n
+
+-- what is answered at the places of whole fields is what the test says there
+pub record Tests (answers : ℕ → Bool → Type 0) (l : List ℕ) (test : ℕ → Bool) : Type 0 where
+  pub same : (i : ℕ) (b : Bool) → i + 3 ≤ length l → answers i b → b ≡ test i
+
+-- a place below n, and none where it is not
+unfoldable pub found : ℕ → ℕ → Option ℕ
+found n i = cond (ltb i n) (Some i) None
 
 -- the field at i is a delay table of type t
 unfoldable pub is_table : List ℕ → ℕ → ℕ → Bool
@@ -37,14 +50,6 @@ lacks cs bk i = cond (eqb (byte cs i) 4) (untabled cs bk (byte cs (i + 4))) fals
 
 abbrev pub lacking_place : List ℕ → List ℕ → ℕ
 lacking_place cs bk = first_place (lacks cs bk) cs
-
--- a field of this tag is the train that is looked for, after `left` others
-unfoldable pub is_train : ℕ → ℕ → Bool
-is_train tag left = cond (eqb tag 4) (eqb left 0) false
-
--- how many trains are still to pass after a field of this tag
-unfoldable pub still_left : ℕ → ℕ → ℕ
-still_left tag left = cond (eqb tag 4) (left - 1) left
 
 -- the offsets of the trains' fields, by train number, and the case's length past the last
 unfoldable pub train_places : List ℕ → List ℕ

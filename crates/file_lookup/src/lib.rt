@@ -1,14 +1,17 @@
 // The table of a train's type, and case and book together.
 #![tactic(auto)]
 
-ghost use Rattle.std.specs.Prelude.{◌≡◌, ◌+◌, ◌≤◌, ◌<◌, length};
+ghost use Rattle.std.specs.Prelude.{◌≡◌, Bool, ℕ, ◌+◌, ◌-◌, ◌/◌, ◌≤◌, ◌<◌, length};
+ghost use Rattle.std.specs.List.{slice_get};
 ghost use Rattle.rules.specs.Files as files;
 ghost use Rattle.file_fields.specs.Fields.{body_at};
-ghost use Rattle.file_lookup.specs.Lookup.{is_table, table_place, untabled, lacks, lacking_place, is_train, still_left, train_place};
-ghost use Rattle.file_lookup.specs.Answers.{files_of, of_file, Looked, TrainTable};
+ghost use Rattle.file_lookup.specs.Lookup.{is_table, table_place, untabled, lacks, lacking_place, train_places, nth_place, Tests, found};
+ghost use Rattle.file_lookup.specs.Answers.{files_of, in_file, Looked, TrainTable};
+ghost use Rattle.file_lookup.specs.Told.{told};
 
-use file_fields::{Field, limits, refusals};
-use file_reader::Reading;
+use file_fields::refusals::{Fault, Refusal};
+use file_fields::{Field, limits};
+use file_reader::{Counts, Misread};
 
 // How large an accepted case is.
 #[derive(Clone, Copy)]
@@ -19,200 +22,142 @@ pub struct Sizes {
     pub couples: usize,
 }
 
-// Case and book: accepted, or refused with a number, the file (0 case, 1 book) and a place.
-#[derive(Clone, Copy)]
-pub enum Files {
-    Sound(Sizes),
-    Unsound(usize, usize, usize),
-}
-
 // Whether the field at i is a delay table of type t.
+#[tactic(auto, unfolding(crate::specs::Lookup::is_table))]
 fn is_table(file: &[u8], t: usize, i: usize) -> bool
     requires { i + 3 ≤ length file.now }
     ensures { result ≡ is_table file.now t i }
 {
-    if file_fields::byte(file, i) == limits::TABLE {
-        return file_fields::byte(file, i + 3) == t;
-    }
-    false
+    file_fields::byte(file, i) == limits::TABLE && file_fields::byte(file, i + 3) == t
 }
 
-// The offset of the table of type t, and the file's length where there is none.
-fn table_at(file: &[u8], t: usize) -> usize
-    ensures { result ≡ table_place file.now t }
+// The offset of the field that passes the test after n others that do.
+fn nth_place<F: Fn(usize) -> bool>(file: &[u8], n: usize, passes: F) -> Option<usize>
+    requires { (i : ℕ) → i + 3 ≤ length file.now → F.pre passes i }
+    ensures { (test : ℕ → Bool) → Tests (F.post passes) file.now test → result ≡ nth_place test file.now n }
 {
+    let mut left = n;
     let mut i = 0;
-    loop {
-        let f = file_fields::field_at(file, i);
-        let Field::Whole {
-            tag: _,
-            size: _,
-            end,
-        } = f
-        else {
-            return file.len();
-        };
-        if is_table(file, t, i) {
-            return i;
+    while let Field::Whole { end, .. } = file_fields::field_at(file, i) {
+        if passes(i) {
+            if left == 0 {
+                return Some(i);
+            }
+            left -= 1;
         }
         i = end;
     }
+    None
+}
+
+// The offset of the table of type t.
+fn table_at(file: &[u8], t: usize) -> Option<usize>
+    ensures { result ≡ found (length file.now) (table_place file.now t) }
+{
+    nth_place(file, 0, |i| is_table(file, t, i))
 }
 
 // The body of the field at i, nothing where there is no whole field.
 fn body_at(file: &[u8], i: usize) -> &[u8]
     ensures { result.now ≡ body_at file.now i }
 {
-    let f = file_fields::field_at(file, i);
-    let Field::Whole {
-        tag: _,
-        size: _,
-        end,
-    } = f
-    else {
-        return &file[..0];
+    let Field::Whole { end, .. } = file_fields::field_at(file, i) else {
+        return &[];
     };
-    let start = i + 3;
-    &file[start..end]
+    &file[i + 3..end]
 }
 
 // The table in the case is used, and otherwise the one in the book.
+// A rule of the project: lookup takes both files as slices and answers the table's part of one; so the two stay two parameters wherever they go.
+// Where neither has the table the part is empty, as `IsFirst` in `Looked` and `body_at` say; no table of a sound file is empty.
 pub fn table<'a>(case: &'a [u8], book: &'a [u8], t: usize) -> &'a [u8]
     ensures { Looked case.now book.now t result.now }
 {
-    let i = table_at(case, t);
-    if i < case.len() {
+    if let Some(i) = table_at(case, t) {
         return body_at(case, i);
     }
-    let j = table_at(book, t);
-    body_at(book, j)
+    match table_at(book, t) {
+        Some(j) => body_at(book, j),
+        None => &[],
+    }
 }
 
 // Whether neither file has a table of type t.
 fn no_table(case: &[u8], book: &[u8], t: usize) -> bool
     ensures { result ≡ untabled case.now book.now t }
 {
-    let i = table_at(case, t);
-    if i < case.len() {
-        return false;
-    }
-    book.len() <= table_at(book, t)
+    table_at(case, t).is_none() && table_at(book, t).is_none()
 }
 
 // Whether the field at i is a train whose type has no table.
+#[tactic(auto, unfolding(crate::specs::Lookup::lacks))]
 fn lacks_table(case: &[u8], book: &[u8], i: usize) -> bool
     requires { i + 3 ≤ length case.now }
     ensures { result ≡ lacks case.now book.now i }
 {
-    if file_fields::byte(case, i) == limits::TRAIN {
-        return no_table(case, book, file_fields::byte(case, i + 4));
-    }
-    false
+    file_fields::byte(case, i) == limits::TRAIN
+        && no_table(case, book, file_fields::byte(case, i + 4))
 }
 
-// The offset of the first train whose type has no table, and the case's length where there is none.
-fn lacking_at(case: &[u8], book: &[u8]) -> usize
-    ensures { result ≡ lacking_place case.now book.now }
+// The offset of the first train whose type has no table.
+fn lacking_at(case: &[u8], book: &[u8]) -> Option<usize>
+    ensures { result ≡ found (length case.now) (lacking_place case.now book.now) }
 {
-    let mut i = 0;
-    loop {
-        let f = file_fields::field_at(case, i);
-        let Field::Whole {
-            tag: _,
-            size: _,
-            end,
-        } = f
-        else {
-            return case.len();
-        };
-        if lacks_table(case, book, i) {
-            return i;
-        }
-        i = end;
-    }
+    nth_place(case, 0, |i| lacks_table(case, book, i))
 }
 
-// Whether the field of this tag is the train that is looked for, after `left` others.
-fn is_train(tag: usize, left: usize) -> bool
-    ensures { result ≡ is_train tag left }
+// The offset of train k's field.
+fn train_at(case: &[u8], k: usize) -> Option<usize>
+    ensures { result ≡ slice_get (train_places case.now) k }
 {
-    if tag == limits::TRAIN {
-        return left == 0;
-    }
-    false
-}
-
-// How many trains are still to pass after a field of this tag.
-fn still_left(tag: usize, left: usize) -> usize
-    ensures { result ≡ still_left tag left }
-{
-    if tag == limits::TRAIN {
-        if left == 0 {
-            return 0;
-        }
-        return left - 1;
-    }
-    left
-}
-
-// The offset of train k's field, and the case's length where there is none.
-fn train_at(case: &[u8], k: usize) -> usize
-    ensures { result ≡ train_place case.now k }
-{
-    let mut left = k;
-    let mut i = 0;
-    loop {
-        let f = file_fields::field_at(case, i);
-        let Field::Whole { tag, size: _, end } = f else {
-            return case.len();
-        };
-        if is_train(tag, left) {
-            return i;
-        }
-        left = still_left(tag, left);
-        i = end;
-    }
+    nth_place(case, k, |i| file_fields::byte(case, i) == limits::TRAIN)
 }
 
 // The table of train k.
+// Where there is no train k its type is 0, as `TrainTable` has it: its `train_place` is then the case's end, past which a byte is 0.
 pub fn train_table<'a>(case: &'a [u8], book: &'a [u8], k: usize) -> &'a [u8]
     ensures { TrainTable case.now book.now k result.now }
 {
-    let i = train_at(case, k);
-    let t = file_fields::byte(case, i + 4);
+    let t = train_at(case, k).map_or(0, |i| file_fields::byte(case, i + 4));
     table(case, book, t)
 }
 
-// The answer of a file that was refused.
-fn of_file(f: usize, r: Reading) -> Files
-    ensures { result ≡ of_file f r }
+// How many pairs of a delay and a weight a table's body has.
+pub fn pairs(body: &[u8]) -> usize
+    ensures { result ≡ (length body.now - 1) / 2 }
 {
-    match r {
-        Reading::Accepted(_) => Files::Unsound(0, 0, 0),
-        Reading::Refused(n, i) => Files::Unsound(n, f, i),
-    }
+    body.len().saturating_sub(1) / 2
+}
+
+// What reading a file (0 case, 1 book) came to.
+fn in_file(file: usize, reading: Result<Counts, Misread>) -> Result<Counts, Refusal>
+    ensures { result ≡ in_file file reading }
+{
+    reading.map_err(|misread| Refusal {
+        fault: misread.fault,
+        file,
+        place: misread.place,
+    })
 }
 
 // Reads the case, then the book, then looks for a train whose type has no table.
-pub fn read_files(case: &[u8], book: &[u8]) -> Files
-    ensures { result ≡ files_of (files.files case.now book.now) }
+// `Sizes` is what `sizes_of` says of a case; the count of its tables is of no use above the files, so four of the five are handed on.
+pub fn read_files(case: &[u8], book: &[u8]) -> Result<Sizes, Refusal>
+    ensures { told result ≡ files_of (files.files case.now book.now) }
 {
-    let r = file_reader::read_case(case);
-    let Reading::Accepted(s) = r else {
-        return of_file(0, r);
-    };
-    let q = file_reader::read_book(book);
-    let Reading::Accepted(_) = q else {
-        return of_file(1, q);
-    };
-    let i = lacking_at(case, book);
-    if i < case.len() {
-        return Files::Unsound(refusals::NO_TABLE, 0, i);
+    let counts = in_file(0, file_reader::read_case(case))?;
+    in_file(1, file_reader::read_book(book))?;
+    if let Some(place) = lacking_at(case, book) {
+        return Err(Refusal {
+            fault: Fault::NoTable,
+            file: 0,
+            place,
+        });
     }
-    Files::Sound(Sizes {
-        stations: s.stations,
-        tracks: s.tracks,
-        trains: s.trains,
-        couples: s.couples,
+    Ok(Sizes {
+        stations: counts.stations,
+        tracks: counts.tracks,
+        trains: counts.trains,
+        couples: counts.couples,
     })
 }

@@ -10,7 +10,7 @@ use Rattle.file_fields.specs.At.{read_here}
 use Rattle.file_bodies.specs.Bodies.{joined, taken}
 use Rattle.file_bodies.specs.Search.{any_none}
 use Rattle.file_reader.specs.declared.Seen.{Seen}
-use Rattle.file_reader.specs.declared.Reading.TheVariants.{Accepted, Refused}
+use Rattle.file_reader.specs.Told.Reading.{Accepted, Refused}
 use Rattle.file_reader.specs.Reading.{tag_of, body_of, field_verdict, after, next, judged, field_of, counts_seen, at_end, turn, read_from, start, reading}
 use Rattle.file_reader.specs.Facts.{Within}
 use Rattle.file_reader.specs.Laws.{within-start, within-next}

@@ -5,8 +5,8 @@ use Rattle.rules.specs.Refusals.{Result}
 use Rattle.rules.specs.Refusals.Result.{refused, answer}
 use Rattle.rules.specs.Files.{Contents}
 use Rattle.file_reader.specs.declared.Counts.{Counts}
-use Rattle.file_reader.specs.declared.Reading.{Reading}
-use Rattle.file_reader.specs.declared.Reading.TheVariants.{Accepted, Refused}
+use Rattle.file_reader.specs.Told.{Reading}
+use Rattle.file_reader.specs.Told.Reading.{Accepted, Refused}
 
 abbrev pub counts_of : Contents → Counts
 counts_of c = record {

@@ -9,9 +9,9 @@ use Rattle.std.proofs.Math.ListN.{length}
 use Rattle.std.proofs.Math.Dec.{leb}
 use borrow.Author.Tests.{leb-true}
 use Rattle.file_reader.specs.declared.Seen.{Seen}
-use Rattle.file_reader.specs.declared.Judged.{Judged}
-use Rattle.file_reader.specs.declared.Judged.TheVariants.{Sound, Unsound}
-use Rattle.file_reader.specs.declared.Reading.TheVariants.{Accepted, Refused}
+use Rattle.file_reader.specs.Told.{Judged}
+use Rattle.file_reader.specs.Told.Judged.{Sound, Unsound}
+use Rattle.file_reader.specs.Told.Reading.{Accepted, Refused}
 use Rattle.file_reader.specs.Reading.{field_verdict, next, judged, field_of, counts_seen, at_end, turn, read_from, start, reading}
 use Rattle.file_reader.specs.Facts.{Within}
 use Rattle.file_reader.specs.Laws.{sound_unsound, accepted-refused, passes, within-start}
@@ -20,7 +20,7 @@ use Rattle.file_reader.specs.Laws.{sound_unsound, accepted-refused, passes, with
 end_refused : (book : Bool) (size : ℕ) (s : Seen) (k i : ℕ) → at_end book size s ≡ Refused k i → (k ≡ 5) × (i ≡ size)
 unfolding at_end
 end_refused true size s k i h = absurd (accepted-refused (counts_seen s) k i h)
-end_refused false size s k i h = go (eqb s.heads 0) (eqb s.stations 0) (eqb s.trains 0) h
+end_refused false size s k i h = go (eqb s.heads 0) (eqb s.counts.stations 0) (eqb s.counts.trains 0) h
   where
     go : (a b c : Bool) → cond a (Refused 5 size) (cond b (Refused 5 size) (cond c (Refused 5 size) (Accepted (counts_seen s)))) ≡ Refused k i → (k ≡ 5) × (i ≡ size)
     go true b c h = (cc, cc)

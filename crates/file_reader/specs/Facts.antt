@@ -7,10 +7,10 @@ use Rattle.file_reader.specs.declared.Seen.{Seen}
 pub record Within (l : List ℕ) (s : Seen) : Type 0 where
   pub inside : s.at ≤ length l
   pub one_head : s.heads ≤ 1
-  pub few_stations : s.stations ≤ 24
-  pub few_tracks : s.tracks ≤ 40
-  pub few_trains : s.trains ≤ most_trains
-  pub few_tables : s.tables ≤ 8
-  pub few_couples : s.couples ≤ 20
-  pub near : s.at ≤ 8 * s.heads + 4 * s.stations + 6 * s.tracks + 45 * s.trains + 20 * s.tables + 5 * s.couples
-  pub behind : 5 * s.couples ≤ s.at
+  pub few_stations : s.counts.stations ≤ 24
+  pub few_tracks : s.counts.tracks ≤ 40
+  pub few_trains : s.counts.trains ≤ most_trains
+  pub few_tables : s.counts.tables ≤ 8
+  pub few_couples : s.counts.couples ≤ 20
+  pub near : s.at ≤ 8 * s.heads + 4 * s.counts.stations + 6 * s.counts.tracks + 45 * s.counts.trains + 20 * s.counts.tables + 5 * s.counts.couples
+  pub behind : 5 * s.counts.couples ≤ s.at

@@ -6,7 +6,7 @@ use Rattle.rules.specs.Refusals.{Refusal, verdict}
 use Rattle.rules.specs.Refusals.Result.{refused}
 use Rattle.rules.specs.Files.{File, Contents, file_number, spot, field_rules, end_rules, read_field, read_fields, empty, read}
 use Rattle.theory_sound.specs.Verdicts.{refused-answer, unless_refused, onward-refused}
-use Rattle.file_reader.specs.declared.Reading.TheVariants.{Refused}
+use Rattle.file_reader.specs.Told.Reading.{Refused}
 use Rattle.file_reader.specs.Reading.{reading}
 use Rattle.file_reader.specs.Bounds.{refused-place}
 use Rattle.file_reader.specs.Holds.{is_book}

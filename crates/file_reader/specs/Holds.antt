@@ -31,12 +31,12 @@ pub record InCase (l : List ℕ) (s : Seen) (c : Contents) : Type 0 where
   pub placed : Placed s
   pub unheaded : s.tag ≡ 0 → s.heads ≡ 0
   pub untouched : s.tag ≡ 0 → s.at ≡ 0
-  pub reached : base s + 6 * s.tracks ≤ s.at
+  pub reached : base s + 6 * s.counts.tracks ≤ s.at
   pub head_stands : (s.heads ≡ 0 → ⊥) → head_of (drop 3 l) ≡ c.head
-  pub stations_stand : (j : ℕ) → j < s.stations → byte l (11 + 4 * j) ≡ get_or c.stations j 0
-  pub tracks_stand : (j : ℕ) → j < s.tracks → track_of (drop (base s + 6 * j + 3) l) ≡ track_at c j
-  pub tracks_lead : (from to : ℕ) → joined l (base s) s.tracks from to ≡ any (leads from to) c.tracks
-  pub couples_stand : (t : ℕ) → taken l (s.at - 5 * s.couples) s.couples t ≡ has (coupled c.couples) t
+  pub stations_stand : (j : ℕ) → j < s.counts.stations → byte l (11 + 4 * j) ≡ get_or c.stations j 0
+  pub tracks_stand : (j : ℕ) → j < s.counts.tracks → track_of (drop (base s + 6 * j + 3) l) ≡ track_at c j
+  pub tracks_lead : (from to : ℕ) → joined l (base s) s.counts.tracks from to ≡ any (leads from to) c.tracks
+  pub couples_stand : (t : ℕ) → taken l (s.at - 5 * s.counts.couples) s.counts.couples t ≡ has (coupled c.couples) t
 
 abbrev pub OfFile : File → List ℕ → Seen → Contents → Type 0
 OfFile case l s c = InCase l s c
@@ -45,12 +45,12 @@ OfFile book l s c = Unit {0}
 -- the state s of the reading of l has seen the contents c
 pub record Holds (f : File) (l : List ℕ) (s : Seen) (c : Contents) : Type 0 where
   pub same_rank : c.rank ≡ s.tag
-  pub stations : length c.stations ≡ s.stations
-  pub tracks : length c.tracks ≡ s.tracks
-  pub trains : length c.trains ≡ s.trains
-  pub tables : length c.tables ≡ s.tables
-  pub couples : length c.couples ≡ s.couples
-  pub types : (x : ℕ) → any (λ e. leb x e.type) c.tables ≡ cond (eqb s.tables 0) false (leb x s.kind)
+  pub stations : length c.stations ≡ s.counts.stations
+  pub tracks : length c.tracks ≡ s.counts.tracks
+  pub trains : length c.trains ≡ s.counts.trains
+  pub tables : length c.tables ≡ s.counts.tables
+  pub couples : length c.couples ≡ s.counts.couples
+  pub types : (x : ℕ) → any (λ e. leb x e.type) c.tables ≡ cond (eqb s.counts.tables 0) false (leb x s.kind)
   pub is_of_file : OfFile f l s c
 
 -- ---- tests of the frame
@@ -127,39 +127,39 @@ unfolding head_of
 minute-of l c h = ap (λ (a : Head). a.last_minute) h
 
 couple-case : (l : List ℕ) (s : Seen) (c : Contents) → Holds case l s c → Within l s → (b : List ℕ)
-    → couple_verdict (take s.at l) (base s) s.tracks s.couples b ≡ verdict (couple_rules c (couple_of b))
-couple-case l s c h w b = couple_agrees c (take s.at l) (base s) s.tracks s.couples (sym h.tracks) stand known b
+    → couple_verdict (take s.at l) (base s) s.counts.tracks s.counts.couples b ≡ verdict (couple_rules c (couple_of b))
+couple-case l s c h w b = couple_agrees c (take s.at l) (base s) s.counts.tracks s.counts.couples (sym h.tracks) stand known b
   where
     i : InCase l s c
     i = h.is_of_file
 
-    stand : (j : ℕ) → j < s.tracks → track_of (drop (base s + 6 * j + 3) (take s.at l)) ≡ track_at c j
+    stand : (j : ℕ) → j < s.counts.tracks → track_of (drop (base s + 6 * j + 3) (take s.at l)) ≡ track_at c j
     stand j k = track-take s.at l (base s + 6 * j + 3) (omega (arith, i.reached)) ∙ i.tracks_stand j k
 
-    known : (t : ℕ) → taken (take s.at l) (first_couple (take s.at l) s.couples) s.couples t ≡ has (coupled c.couples) t
+    known : (t : ℕ) → taken (take s.at l) (first_couple (take s.at l) s.counts.couples) s.counts.couples t ≡ has (coupled c.couples) t
     known t =
         rw (length-take-le s.at l w.inside)
-        (taken-take s.at l (s.at - 5 * s.couples) s.couples t (omega (arith, w.behind)) ∙ i.couples_stand t)
+        (taken-take s.at l (s.at - 5 * s.counts.couples) s.counts.couples t (omega (arith, w.behind)) ∙ i.couples_stand t)
 
 body_agrees : (f : File) (l : List ℕ) (s : Seen) (c : Contents) → Holds f l s c → Within l s → (tag n : ℕ) → Framed (length l) (is_book f) s tag n → (b : List ℕ) → length b ≡ n
     → body_verdict (take s.at l) s tag b ≡ verdict (body_rules c s.at (kind_of tag) b)
 unfolding body_verdict body_rules kind_of
 body_agrees case l s c h w tag n d b e =
     let i = h.is_of_file in
-    let lead : (from to : ℕ) → joined (take s.at l) (base s) s.tracks from to ≡ any (leads from to) c.tracks = λ from to. joined-take s.at l (base s) s.tracks from to i.reached ∙ i.tracks_lead from to in
+    let lead : (from to : ℕ) → joined (take s.at l) (base s) s.counts.tracks from to ≡ any (leads from to) c.tracks = λ from to. joined-take s.at l (base s) s.counts.tracks from to i.reached ∙ i.tracks_lead from to in
     six (λ t. out_of_place false s t ≡ false → bad_length t n ≡ false → body_verdict (take s.at l) s t b ≡ verdict (body_rules c s.at (kind_of t) b)) tag d.low d.high
     (λ p q. head_agrees b)
     (λ p q. station_agrees b)
-    (λ p q. track_agrees c (take s.at l) (base s) s.tracks s.stations (sym h.stations) lead b)
+    (λ p q. track_agrees c (take s.at l) (base s) s.counts.tracks s.counts.stations (sym h.stations) lead b)
     (λ p q.
     let z = heads-first s 4 p (λ y. omega arith) in
     let r = i.reached in
     let k = train-length n q in
-    train_agrees c (take s.at l) (base s) s.tracks s.stations (sym h.stations) lead b (n / 5 - 1) s.at (word-take s.at l 3 (omega arith) ∙ sym (word-drop l 3 0 3 refl) ∙ minute-of l c (i.head_stands z)) (e ∙ train-stops n q))
-    (λ p q. table_agrees c s.tables s.kind h.types b)
+    train_agrees c (take s.at l) (base s) s.counts.tracks s.counts.stations (sym h.stations) lead b (n / 5 - 1) s.at (word-take s.at l 3 (omega arith) ∙ sym (word-drop l 3 0 3 refl) ∙ minute-of l c (i.head_stands z)) (e ∙ train-stops n q))
+    (λ p q. table_agrees c s.counts.tables s.kind h.types b)
     (λ p q. couple-case l s c h w b)
     d.placed d.possible
-body_agrees book l s c h w tag n d b e = let t = table_only s tag d.placed in rw t (table_agrees c s.tables s.kind h.types b)
+body_agrees book l s c h w tag n d b e = let t = table_only s tag d.placed in rw t (table_agrees c s.counts.tables s.kind h.types b)
 
 -- ---- the field
 

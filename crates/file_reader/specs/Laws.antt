@@ -1,5 +1,5 @@
 -- The laws of a reading. Assumes nothing.
-use Rattle.std.specs.Prelude.{◌≡◌, Bool, true, cond, not, List, length, get_or, take, drop, ltb, eqb}
+use Rattle.std.specs.Prelude.{◌≡◌, Result, Ok, Err, Bool, true, cond, not, List, length, get_or, take, drop, ltb, eqb}
 use Rattle.std.proofs.Math.Path.{refl, sym, subst}
 use Rattle.std.proofs.Common.{ap, ◌∙◌, true≢false}
 use Rattle.std.proofs.Math.Bool.{false}
@@ -7,13 +7,18 @@ use Prim.Native.Nat.{ℕ, zero, suc, ◌+◌, ◌-◌, ◌*◌, ◌/◌, ◌%◌
 use native.Mathlib.Omega.{arith}
 use borrow.Author.Tests.{lt-ltb, le-ltb, le-leb, lt-leb, ltb-false, leb-false, eqb-true, eqb-false, not-false}
 use Rattle.file_fields.specs.At.{length_part}
+use Rattle.file_fields.specs.declared.refusals.Fault.{Fault}
+use Rattle.file_fields.specs.declared.refusals.Fault.TheVariants.{Overrun, UnknownTag, Misplaced, WrongLength, WrongCount, OutOfRange, WrongEnds, WrongPath, WrongTimes, WrongTable, NoTable, NoRoom, TooShort, WrongChoice, NoTrain, StopTooLate, WrongCouple}
+use Rattle.file_fields.specs.Faults.{number_of}
 use Rattle.file_fields.specs.Walk.{Walked, walked_start, walked_next}
 use Rattle.file_bodies.specs.Bodies.{bad_length}
 use Rattle.file_reader.specs.declared.Seen.{Seen}
 use Rattle.file_reader.specs.declared.Counts.{Counts}
-use Rattle.file_reader.specs.declared.Judged.{Judged}
-use Rattle.file_reader.specs.declared.Judged.TheVariants.{Sound, Unsound}
-use Rattle.file_reader.specs.declared.Reading.TheVariants.{Accepted, Refused}
+use Rattle.std.specs.Result.{is_ok, MatchResult}
+use Rattle.file_reader.specs.declared.Misread.{Misread}
+use Rattle.file_reader.specs.Told.{Judged, judged_of}
+use Rattle.file_reader.specs.Told.Judged.{Sound, Unsound}
+use Rattle.file_reader.specs.Told.Reading.{Accepted, Refused}
 use Rattle.file_reader.specs.Reading.{out_of_place, too_many, frame_verdict, body_verdict, or_else, tag_of, size_of, body_of, field_verdict, counted, newer, after, next, judged, field_of, at_end, stopped, turn, read_from, start, reading}
 use Rattle.file_reader.specs.Facts.{Within}
 
@@ -51,6 +56,26 @@ or_here (suc a) b k = refl
 judged_bad : (a : ℕ) (s : Seen) → (a ≡ 0 → ⊥) → judged a s ≡ Unsound a
 judged_bad zero s k = absurd (k refl)
 judged_bad (suc a) s k = refl
+
+-- a fault has a number
+fault_number : (f : Fault) → number_of f ≡ 0 → ⊥
+fault_number Overrun h = absurd (omega arith)
+fault_number UnknownTag h = absurd (omega arith)
+fault_number Misplaced h = absurd (omega arith)
+fault_number WrongLength h = absurd (omega arith)
+fault_number WrongCount h = absurd (omega arith)
+fault_number OutOfRange h = absurd (omega arith)
+fault_number WrongEnds h = absurd (omega arith)
+fault_number WrongPath h = absurd (omega arith)
+fault_number WrongTimes h = absurd (omega arith)
+fault_number WrongTable h = absurd (omega arith)
+fault_number NoTable h = absurd (omega arith)
+fault_number NoRoom h = absurd (omega arith)
+fault_number TooShort h = absurd (omega arith)
+fault_number WrongChoice h = absurd (omega arith)
+fault_number NoTrain h = absurd (omega arith)
+fault_number StopTooLate h = absurd (omega arith)
+fault_number WrongCouple h = absurd (omega arith)
 
 -- what a sound frame says
 pub record Framed (size : ℕ) (book : Bool) (s : Seen) (tag n : ℕ) : Type 0 where
@@ -166,7 +191,7 @@ module _ (l : List ℕ) (book : Bool) (s : Seen) (w : Within l s) where
         near = omega arith;
         behind = omega (arith, w.behind);
       })
-      (λ p q r. let a = leb-false 24 s.stations r in let b = station-length n q in
+      (λ p q r. let a = leb-false 24 s.counts.stations r in let b = station-length n q in
       record {
         inside = f.whole;
         one_head = w.one_head;
@@ -178,7 +203,7 @@ module _ (l : List ℕ) (book : Bool) (s : Seen) (w : Within l s) where
         near = omega arith;
         behind = omega (arith, w.behind);
       })
-      (λ p q r. let a = leb-false 40 s.tracks r in let b = track-length n q in
+      (λ p q r. let a = leb-false 40 s.counts.tracks r in let b = track-length n q in
       record {
         inside = f.whole;
         one_head = w.one_head;
@@ -190,7 +215,7 @@ module _ (l : List ℕ) (book : Bool) (s : Seen) (w : Within l s) where
         near = omega arith;
         behind = omega (arith, w.behind);
       })
-      (λ p q r. let a = leb-false 7 s.trains r in let b = train-length n q in
+      (λ p q r. let a = leb-false 7 s.counts.trains r in let b = train-length n q in
       record {
         inside = f.whole;
         one_head = w.one_head;
@@ -202,7 +227,7 @@ module _ (l : List ℕ) (book : Bool) (s : Seen) (w : Within l s) where
         near = omega arith;
         behind = omega (arith, w.behind);
       })
-      (λ p q r. let a = leb-false 8 s.tables r in let b = table-length n q in
+      (λ p q r. let a = leb-false 8 s.counts.tables r in let b = table-length n q in
       record {
         inside = f.whole;
         one_head = w.one_head;
@@ -214,7 +239,7 @@ module _ (l : List ℕ) (book : Bool) (s : Seen) (w : Within l s) where
         near = omega arith;
         behind = omega (arith, w.behind);
       })
-      (λ p q r. let a = leb-false 20 s.couples r in let b = couple-length n q in
+      (λ p q r. let a = leb-false 20 s.counts.couples r in let b = couple-length n q in
       record {
         inside = f.whole;
         one_head = w.one_head;
@@ -302,6 +327,9 @@ module _ (l : List ℕ) (book : Bool) (s : Seen) where
     pub field_frame : (no ≡ 0 → ⊥) → field_verdict book l s ≡ no
     field_frame k = fits ∙ or_here no _ k
 
+    pub frame-fault : (f : Fault) → number_of f ≡ no → number_of f ≡ field_verdict book l s
+    frame-fault f p = p ∙ sym (field_frame (λ z. fault_number f (p ∙ z)))
+
     -- the body as the code cuts it out
     pub field-body : no ≡ 0 → field_verdict book l s ≡ body_verdict (take s.at l) s tag (take (s.at + 3 + n - (s.at + 3)) (drop (s.at + 3) l))
     field-body k =
@@ -312,9 +340,31 @@ module _ (l : List ℕ) (book : Bool) (s : Seen) where
   unfolding field_of
   field_bad {no} e k = rw (← e) (judged_bad no (next l s) k)
 
+  pub field-fault : (f : Fault) → number_of f ≡ field_verdict book l s → Unsound (number_of f) ≡ field_of book l s
+  field-fault f e = sym (field_bad e (fault_number f))
+
   pub field_good : {no : ℕ} {t : Seen} → no ≡ field_verdict book l s → no ≡ 0 → t ≡ next l s → field_of book l s ≡ Sound t
   unfolding field_of
   field_good e k p = rw (← e, k, p)
+
+-- a judgment whose fault was given a place
+pub sound_of : (Q : Fault → Type 0) (r : Result Seen Fault) (t : Seen) → true ≡ is_ok r → MatchResult r (λ x. ◌≡◌ {A = Result Seen Misread} (Ok t) (Ok x)) Q → Sound t ≡ judged_of r
+sound_of Q (Ok x) t v h = cc
+sound_of Q (Err f) t v h = absurd (true≢false v)
+
+-- the fault of a judgment
+abbrev pub fault_in : Result Seen Fault → Fault
+fault_in (Ok x) = Overrun
+fault_in (Err f) = f
+
+pub faulty : (r : Result Seen Fault) → false ≡ is_ok r → r ≡ Err (fault_in r)
+faulty (Ok x) v = absurd (true≢false (sym v))
+faulty (Err f) v = refl
+
+-- nothing seen yet
+pub fresh : (s : Seen) → (s.at ≡ 0) × ((s.tag ≡ 0) × ((s.heads ≡ 0) × ((s.kind ≡ 0)
+    × ((s.counts.stations ≡ 0) × ((s.counts.tracks ≡ 0) × ((s.counts.trains ≡ 0) × ((s.counts.tables ≡ 0) × (s.counts.couples ≡ 0)))))))) → s ≡ start
+fresh s (a, (t, (h, (k, (st, (tr, (tn, (tb, c)))))))) = rw (a, t, h, k, st, tr, tn, tb, c)
 
 pub within-start : (l : List ℕ) → Within l start
 within-start l = record {

@@ -1,3 +1,4 @@
+pub mod Told
 pub mod Reading
 pub mod Facts
 pub mod Laws
@@ -11,3 +12,4 @@ pub mod Final
 pub mod Along
 pub mod Decoded
 pub mod Stands
+pub mod Same

@@ -99,17 +99,17 @@ module _ (l : List ℕ) (s : Seen) (c : Contents) (h : Holds case l s c) (w : Wi
   grown t = after s t (s.at + 3 + n) x
 
   -- a head comes first
-  fresh : out_of_place false s 1 ≡ false → (s.at ≡ 0) × (s.tracks ≡ 0) × (s.tag ≡ 0)
+  fresh : out_of_place false s 1 ≡ false → (s.at ≡ 0) × (s.counts.tracks ≡ 0) × (s.tag ≡ 0)
   fresh p =
       let a = head_first false s p in
       let t = i.placed.headed a in
       (i.untouched t, i.placed.none_yet (omega arith), t)
 
-  reached-more : base (grown tag) + 6 * (grown tag).tracks ≤ s.at + 3 + n
+  reached-more : base (grown tag) + 6 * (grown tag).counts.tracks ≤ s.at + 3 + n
   unfolding after counted
   reached-more =
       let r = i.reached in
-      six (λ t. bad_length t n ≡ false → base (grown t) + 6 * (grown t).tracks ≤ s.at + 3 + n) tag f.low f.high
+      six (λ t. bad_length t n ≡ false → base (grown t) + 6 * (grown t).counts.tracks ≤ s.at + 3 + n) tag f.low f.high
       (λ q. let e = head-length n q in omega arith)
       (λ q. let e = station-length n q in omega arith)
       (λ q. let e = track-length n q in omega arith)
@@ -133,10 +133,10 @@ module _ (l : List ℕ) (s : Seen) (c : Contents) (h : Holds case l s c) (w : Wi
       (λ p q z. i.head_stands z)
       f.placed f.possible
 
-  stations-more : (j : ℕ) → j < (grown tag).stations → byte l (11 + 4 * j) ≡ get_or (more c s.at (kind_of tag) b).stations j 0
+  stations-more : (j : ℕ) → j < (grown tag).counts.stations → byte l (11 + 4 * j) ≡ get_or (more c s.at (kind_of tag) b).stations j 0
   unfolding after counted more kind_of
   stations-more j =
-      six (λ t. out_of_place false s t ≡ false → bad_length t n ≡ false → j < (grown t).stations → byte l (11 + 4 * j) ≡ get_or (more c s.at (kind_of t) b).stations j 0) tag f.low f.high
+      six (λ t. out_of_place false s t ≡ false → bad_length t n ≡ false → j < (grown t).counts.stations → byte l (11 + 4 * j) ≡ get_or (more c s.at (kind_of t) b).stations j 0) tag f.low f.high
       (λ p q k. old k)
       (λ p q k.
       let r = rises s 2 p (λ e. omega arith) in
@@ -144,7 +144,7 @@ module _ (l : List ℕ) (s : Seen) (c : Contents) (h : Holds case l s c) (w : Wi
       let d = i.placed.none_yet r in
       let z = heads-first s 2 p (λ e. omega arith) in
       let e = station-length n q in
-      snoc c.stations (byte b 0) 0 j s.stations h.stations k (i.stations_stand j)
+      snoc c.stations (byte b 0) 0 j s.counts.stations h.stations k (i.stations_stand j)
       (λ g. sym (byte-part l (s.at + 3) n 0 (11 + 4 * j) (omega arith) (omega arith))))
       (λ p q k. old k)
       (λ p q k. old k)
@@ -152,20 +152,20 @@ module _ (l : List ℕ) (s : Seen) (c : Contents) (h : Holds case l s c) (w : Wi
       (λ p q k. old k)
       f.placed f.possible
     where
-      old : j < s.stations → byte l (11 + 4 * j) ≡ get_or (c.stations ++ []) j 0
+      old : j < s.counts.stations → byte l (11 + 4 * j) ≡ get_or (c.stations ++ []) j 0
       old k = i.stations_stand j k ∙ sym (ap (λ (m : List ℕ). get_or m j 0) (append-nil c.stations))
 
-  tracks-more : (j : ℕ) → j < (grown tag).tracks → track_of (drop (base (grown tag) + 6 * j + 3) l) ≡ track_at (more c s.at (kind_of tag) b) j
+  tracks-more : (j : ℕ) → j < (grown tag).counts.tracks → track_of (drop (base (grown tag) + 6 * j + 3) l) ≡ track_at (more c s.at (kind_of tag) b) j
   unfolding after counted more kind_of track_of track_at
   tracks-more j =
-      six (λ t. out_of_place false s t ≡ false → bad_length t n ≡ false → j < (grown t).tracks → track_of (drop (base (grown t) + 6 * j + 3) l) ≡ track_at (more c s.at (kind_of t) b) j) tag f.low f.high
+      six (λ t. out_of_place false s t ≡ false → bad_length t n ≡ false → j < (grown t).counts.tracks → track_of (drop (base (grown t) + 6 * j + 3) l) ≡ track_at (more c s.at (kind_of t) b) j) tag f.low f.high
       (λ p q k. let z = (fresh p).1 in absurd (omega arith))
       (λ p q k. let r = rises s 2 p (λ e. omega arith) in let z = i.placed.none_yet r in absurd (omega arith))
       (λ p q k.
       let r = rises s 3 p (λ e. omega arith) in
       let a = i.placed.so_far r in
       let e = track-length n q in
-      snoc c.tracks (track_of b) no_track j s.tracks h.tracks k (i.tracks_stand j)
+      snoc c.tracks (track_of b) no_track j s.counts.tracks h.tracks k (i.tracks_stand j)
       (λ g.
       let u : s.at + 3 ≡ base s + 6 * j + 3 = omega arith in
       rw (e, u) (sym (rw (get_or-take 3 (drop (base s + 6 * j + 3) l) 0 0 (omega arith), get_or-take 3 (drop (base s + 6 * j + 3) l) 1 0 (omega arith), get_or-take 3 (drop (base s + 6 * j + 3) l) 2 0 (omega arith))))))
@@ -174,22 +174,22 @@ module _ (l : List ℕ) (s : Seen) (c : Contents) (h : Holds case l s c) (w : Wi
       (λ p q k. old k)
       f.placed f.possible
     where
-      old : j < s.tracks → track_of (drop (base s + 6 * j + 3) l) ≡ get_or (c.tracks ++ []) j no_track
+      old : j < s.counts.tracks → track_of (drop (base s + 6 * j + 3) l) ≡ get_or (c.tracks ++ []) j no_track
       old k = i.tracks_stand j k ∙ sym (ap (λ (m : List Track). get_or m j no_track) (append-nil c.tracks))
 
-  none-lead : (k : ℕ) (from to : ℕ) → s.tracks ≡ 0 → joined l k s.tracks from to ≡ any (leads from to) (c.tracks ++ [])
+  none-lead : (k : ℕ) (from to : ℕ) → s.counts.tracks ≡ 0 → joined l k s.counts.tracks from to ≡ any (leads from to) (c.tracks ++ [])
   unfolding joined
   none-lead k from to e = rw e (any_none _) ∙ sym (ap (any (leads from to)) (append-nil c.tracks) ∙ any-empty (leads from to) c.tracks (h.tracks ∙ e))
 
-  one-leads : (from to : ℕ) → n ≡ 3 → s.at ≡ base s + 6 * s.tracks → joined l (base s) (s.tracks + 1) from to ≡ any (leads from to) (c.tracks ++ (track_of b ∷ []))
+  one-leads : (from to : ℕ) → n ≡ 3 → s.at ≡ base s + 6 * s.counts.tracks → joined l (base s) (s.counts.tracks + 1) from to ≡ any (leads from to) (c.tracks ++ (track_of b ∷ []))
   unfolding joined ends leads track_of
   one-leads from to e a =
-      let u = byte-part l (s.at + 3) n 0 (base s + 6 * s.tracks + 3) (omega arith) (omega arith) in
-      let v = byte-part l (s.at + 3) n 1 (base s + 6 * s.tracks + 4) (omega arith) (omega arith) in
-      ap (λ (k : ℕ). joined l (base s) k from to) (add-one s.tracks)
-      ∙ any-suc (λ j. ends l (base s + 6 * j) from to) s.tracks
-      ∙ go (eqb (byte l (base s + 6 * s.tracks + 3)) from) (eqb (byte l (base s + 6 * s.tracks + 4)) to) (joined l (base s) s.tracks from to)
-      ∙ ap (λ (y : Bool). joined l (base s) s.tracks from to || y) (rw (u, v))
+      let u = byte-part l (s.at + 3) n 0 (base s + 6 * s.counts.tracks + 3) (omega arith) (omega arith) in
+      let v = byte-part l (s.at + 3) n 1 (base s + 6 * s.counts.tracks + 4) (omega arith) (omega arith) in
+      ap (λ (k : ℕ). joined l (base s) k from to) (add-one s.counts.tracks)
+      ∙ any-suc (λ j. ends l (base s + 6 * j) from to) s.counts.tracks
+      ∙ go (eqb (byte l (base s + 6 * s.counts.tracks + 3)) from) (eqb (byte l (base s + 6 * s.counts.tracks + 4)) to) (joined l (base s) s.counts.tracks from to)
+      ∙ ap (λ (y : Bool). joined l (base s) s.counts.tracks from to || y) (rw (u, v))
       ∙ ap (λ (y : Bool). y || leads from to (track_of b)) (i.tracks_lead from to)
       ∙ sym (any-more (leads from to) true (track_of b) c.tracks)
     where
@@ -201,10 +201,10 @@ module _ (l : List ℕ) (s : Seen) (c : Contents) (h : Holds case l s c) (w : Wi
       go false q true = refl
       go false q false = refl
 
-  lead-more : (from to : ℕ) → joined l (base (grown tag)) (grown tag).tracks from to ≡ any (leads from to) (more c s.at (kind_of tag) b).tracks
+  lead-more : (from to : ℕ) → joined l (base (grown tag)) (grown tag).counts.tracks from to ≡ any (leads from to) (more c s.at (kind_of tag) b).tracks
   unfolding after counted more kind_of
   lead-more from to =
-      six (λ t. out_of_place false s t ≡ false → bad_length t n ≡ false → joined l (base (grown t)) (grown t).tracks from to ≡ any (leads from to) (more c s.at (kind_of t) b).tracks) tag f.low f.high
+      six (λ t. out_of_place false s t ≡ false → bad_length t n ≡ false → joined l (base (grown t)) (grown t).counts.tracks from to ≡ any (leads from to) (more c s.at (kind_of t) b).tracks) tag f.low f.high
       (λ p q. none-lead _ from to (fresh p).1)
       (λ p q. let r = rises s 2 p (λ e. omega arith) in none-lead _ from to (i.placed.none_yet r))
       (λ p q. let r = rises s 3 p (λ e. omega arith) in one-leads from to (track-length n q) (i.placed.so_far r))
@@ -213,29 +213,29 @@ module _ (l : List ℕ) (s : Seen) (c : Contents) (h : Holds case l s c) (w : Wi
       (λ p q. old)
       f.placed f.possible
     where
-      old : joined l (base s) s.tracks from to ≡ any (leads from to) (c.tracks ++ [])
+      old : joined l (base s) s.counts.tracks from to ≡ any (leads from to) (c.tracks ++ [])
       old = i.tracks_lead from to ∙ sym (ap (any (leads from to)) (append-nil c.tracks))
 
-  none-taken : (first t : ℕ) → s.couples ≡ 0 → taken l first s.couples t ≡ has (coupled (c.couples ++ [])) t
+  none-taken : (first t : ℕ) → s.counts.couples ≡ 0 → taken l first s.counts.couples t ≡ has (coupled (c.couples ++ [])) t
   unfolding taken
   none-taken first t e =
       rw e (any_none _) ∙ sym (ap (λ (m : List Couple). has (coupled m) t) (append-nil c.couples) ∙ none-coupled c.couples t (h.couples ∙ e))
 
-  one-taken : (t : ℕ) → n ≡ 2 → taken l (s.at + 3 + n - 5 * (s.couples + 1)) (s.couples + 1) t ≡ has (coupled (c.couples ++ (couple_of b ∷ []))) t
+  one-taken : (t : ℕ) → n ≡ 2 → taken l (s.at + 3 + n - 5 * (s.counts.couples + 1)) (s.counts.couples + 1) t ≡ has (coupled (c.couples ++ (couple_of b ∷ []))) t
   unfolding taken in_couple coupled couple_of
   one-taken t e =
-      let here : s.at + 3 + n - 5 * (s.couples + 1) ≡ first = omega (arith, w.behind) in
-      let u = byte-part l (s.at + 3) n 0 (first + 5 * s.couples + 3) (omega arith) (omega (arith, w.behind)) in
-      let v = byte-part l (s.at + 3) n 1 (first + 5 * s.couples + 4) (omega arith) (omega (arith, w.behind)) in
-      rw (here, add-one s.couples)
-      (any-suc (λ k. in_couple l (first + 5 * k) t) s.couples
-      ∙ go (eqb t (byte l (first + 5 * s.couples + 3))) (eqb t (byte l (first + 5 * s.couples + 4))) (taken l first s.couples t)
+      let here : s.at + 3 + n - 5 * (s.counts.couples + 1) ≡ first = omega (arith, w.behind) in
+      let u = byte-part l (s.at + 3) n 0 (first + 5 * s.counts.couples + 3) (omega arith) (omega (arith, w.behind)) in
+      let v = byte-part l (s.at + 3) n 1 (first + 5 * s.counts.couples + 4) (omega arith) (omega (arith, w.behind)) in
+      rw (here, add-one s.counts.couples)
+      (any-suc (λ k. in_couple l (first + 5 * k) t) s.counts.couples
+      ∙ go (eqb t (byte l (first + 5 * s.counts.couples + 3))) (eqb t (byte l (first + 5 * s.counts.couples + 4))) (taken l first s.counts.couples t)
       ∙ (rw (u, v, i.couples_stand t))
       ∙ sym (any_append (eqb t) (coupled c.couples) (byte b 0 ∷ byte b 1 ∷ []))
       ∙ sym (ap (λ (m : List ℕ). has m t) (each_append (λ p. p.first ∷ p.second ∷ []) c.couples (couple_of b ∷ []))))
     where
       first : ℕ
-      first = s.at - 5 * s.couples
+      first = s.at - 5 * s.counts.couples
 
       go : (p q y : Bool) → cond (cond p true q) true y ≡ y || (p || (q || false))
       go true q true = refl
@@ -245,11 +245,11 @@ module _ (l : List ℕ) (s : Seen) (c : Contents) (h : Holds case l s c) (w : Wi
       go false false true = refl
       go false false false = refl
 
-  couples-more : (t : ℕ) → taken l (s.at + 3 + n - 5 * (grown tag).couples) (grown tag).couples t ≡ has (coupled (more c s.at (kind_of tag) b).couples) t
+  couples-more : (t : ℕ) → taken l (s.at + 3 + n - 5 * (grown tag).counts.couples) (grown tag).counts.couples t ≡ has (coupled (more c s.at (kind_of tag) b).couples) t
   unfolding after counted more kind_of
   couples-more t =
       six (λ k. out_of_place false s k ≡ false → bad_length k n ≡ false
-      → taken l (s.at + 3 + n - 5 * (grown k).couples) (grown k).couples t ≡ has (coupled (more c s.at (kind_of k) b).couples) t) tag f.low f.high
+      → taken l (s.at + 3 + n - 5 * (grown k).counts.couples) (grown k).counts.couples t ≡ has (coupled (more c s.at (kind_of k) b).couples) t) tag f.low f.high
       (λ p q. let r = (fresh p).2 in none-taken _ t (i.placed.no_couples (omega arith)))
       (λ p q. let r = rises s 2 p (λ e. omega arith) in none-taken _ t (i.placed.no_couples (omega arith)))
       (λ p q. let r = rises s 3 p (λ e. omega arith) in none-taken _ t (i.placed.no_couples (omega arith)))
@@ -261,12 +261,12 @@ module _ (l : List ℕ) (s : Seen) (c : Contents) (h : Holds case l s c) (w : Wi
 -- ---- one field more
 
 module _ (f : File) (l : List ℕ) (s : Seen) (c : Contents) (h : Holds f l s c) (w : Within l s) (v : field_verdict (is_book f) l s ≡ 0) where
-  of_table : (tag : ℕ) (b : List ℕ) → tag ≡ 5 → body_verdict (take s.at l) s tag b ≡ 0 → table_verdict s.tables s.kind b ≡ 0
+  of_table : (tag : ℕ) (b : List ℕ) → tag ≡ 5 → body_verdict (take s.at l) s tag b ≡ 0 → table_verdict s.counts.tables s.kind b ≡ 0
   unfolding body_verdict
   of_table tag b e q = rw e at q
 
   types-next : (x : ℕ) → any (λ e. leb x e.type) (more c s.at (kind_of (tag_of l s)) (body_of l s)).tables
-      ≡ cond (eqb (counted (tag_of l s) 5 s.tables) 0) false (leb x (newer (tag_of l s) (get_or l (s.at + 3) 0) s.kind))
+      ≡ cond (eqb (counted (tag_of l s) 5 s.counts.tables) 0) false (leb x (newer (tag_of l s) (get_or l (s.at + 3) 0) s.kind))
   unfolding more counted newer table_of
   types-next x =
       rw (is-tag table (tag_of l s) (omega arith))
@@ -274,14 +274,14 @@ module _ (f : File) (l : List ℕ) (s : Seen) (c : Contents) (h : Holds f l s c)
     where
       go : (y : Bool) → eqb (tag_of l s) 5 ≡ y
           → cond y (any (λ e. leb x e.type) c.tables || leb x (byte (body_of l s) 0)) (any (λ e. leb x e.type) c.tables)
-          ≡ cond (eqb (cond y (s.tables + 1) s.tables) 0) false (leb x (cond y (get_or l (s.at + 3) 0) s.kind))
+          ≡ cond (eqb (cond y (s.counts.tables + 1) s.counts.tables) 0) false (leb x (cond y (get_or l (s.at + 3) 0) s.kind))
       go true e =
           let t = eqb-true (tag_of l s) 5 e in
           let d = field_framed l (is_book f) s w v in
           let n = table-length (size_of l s) (ap (λ (k : ℕ). bad_length k (size_of l s)) (sym t) ∙ d.possible) in
           let y = byte-part l (s.at + 3) (size_of l s) 0 (s.at + 3) (omega arith) (omega arith) in
-          types_more c s.tables s.kind h.types (body_of l s) (of_table (tag_of l s) (body_of l s) t (body-sound l (is_book f) s w v)) x
-          ∙ ap (λ (k : ℕ). cond (eqb (s.tables + 1) 0) false (leb x k)) y
+          types_more c s.counts.tables s.kind h.types (body_of l s) (of_table (tag_of l s) (body_of l s) t (body-sound l (is_book f) s w v)) x
+          ∙ ap (λ (k : ℕ). cond (eqb (s.counts.tables + 1) 0) false (leb x k)) y
       go false e = h.types x
 
 case-next : (l : List ℕ) (s : Seen) (c : Contents) (h : Holds case l s c) (w : Within l s) (v : field_verdict false l s ≡ 0) → InCase l (next l s) (more c s.at (kind_of (tag_of l s)) (body_of l s))
@@ -307,11 +307,11 @@ pub holds-next : (f : File) (l : List ℕ) (s : Seen) (c : Contents) → Holds f
 unfolding next after more counted
 holds-next f l s c h w v = record {
   same_rank = rank-tag (tag_of l s) (field_framed l (is_book f) s w v).high;
-  stations = rw (is-tag station (tag_of l s) (omega arith)) (count-more (eqb (tag_of l s) 2) (byte (body_of l s) 0) c.stations s.stations h.stations);
-  tracks = rw (is-tag track (tag_of l s) (omega arith)) (count-more (eqb (tag_of l s) 3) (track_of (body_of l s)) c.tracks s.tracks h.tracks);
-  trains = rw (is-tag train (tag_of l s) (omega arith)) (count-more (eqb (tag_of l s) 4) (train_of s.at (body_of l s)) c.trains s.trains h.trains);
-  tables = rw (is-tag table (tag_of l s) (omega arith)) (count-more (eqb (tag_of l s) 5) (table_of (body_of l s)) c.tables s.tables h.tables);
-  couples = rw (is-tag couple (tag_of l s) (omega arith)) (count-more (eqb (tag_of l s) 6) (couple_of (body_of l s)) c.couples s.couples h.couples);
+  stations = rw (is-tag station (tag_of l s) (omega arith)) (count-more (eqb (tag_of l s) 2) (byte (body_of l s) 0) c.stations s.counts.stations h.stations);
+  tracks = rw (is-tag track (tag_of l s) (omega arith)) (count-more (eqb (tag_of l s) 3) (track_of (body_of l s)) c.tracks s.counts.tracks h.tracks);
+  trains = rw (is-tag train (tag_of l s) (omega arith)) (count-more (eqb (tag_of l s) 4) (train_of s.at (body_of l s)) c.trains s.counts.trains h.trains);
+  tables = rw (is-tag table (tag_of l s) (omega arith)) (count-more (eqb (tag_of l s) 5) (table_of (body_of l s)) c.tables s.counts.tables h.tables);
+  couples = rw (is-tag couple (tag_of l s) (omega arith)) (count-more (eqb (tag_of l s) 6) (couple_of (body_of l s)) c.couples s.counts.couples h.couples);
   types = types-next f l s c h w v;
   is_of_file = go f h v;
 }

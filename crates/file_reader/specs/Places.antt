@@ -10,9 +10,9 @@ use Rattle.file_reader.specs.Facts.{Within}
 use Rattle.file_reader.specs.Laws.{Framed, field_framed, head_first, six, head-length, station-length, track-length}
 
 pub record Placed (s : Seen) : Type 0 where
-  pub none_yet : s.tag ≤ 2 → s.tracks ≡ 0
-  pub no_couples : s.tag ≤ 5 → s.couples ≡ 0
-  pub so_far : s.tag ≤ 3 → s.at ≡ base s + 6 * s.tracks
+  pub none_yet : s.tag ≤ 2 → s.counts.tracks ≡ 0
+  pub no_couples : s.tag ≤ 5 → s.counts.couples ≡ 0
+  pub so_far : s.tag ≤ 3 → s.at ≡ base s + 6 * s.counts.tracks
   pub headed : s.heads ≡ 0 → s.tag ≡ 0
 
 pub placed-start : Placed start

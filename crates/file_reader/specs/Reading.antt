@@ -6,10 +6,10 @@ use Rattle.rules.specs.Files.{word, most_trains}
 use Rattle.file_bodies.specs.Bodies.{head_verdict, station_verdict, track_verdict, train_verdict, table_verdict, couple_verdict, bad_length}
 use Rattle.file_reader.specs.declared.Seen.{Seen}
 use Rattle.file_reader.specs.declared.Counts.{Counts}
-use Rattle.file_reader.specs.declared.Judged.{Judged}
-use Rattle.file_reader.specs.declared.Judged.TheVariants.{Sound, Unsound}
-use Rattle.file_reader.specs.declared.Reading.{Reading}
-use Rattle.file_reader.specs.declared.Reading.TheVariants.{Accepted, Refused}
+use Rattle.file_reader.specs.Told.{Judged}
+use Rattle.file_reader.specs.Told.Judged.{Sound, Unsound}
+use Rattle.file_reader.specs.Told.{Reading}
+use Rattle.file_reader.specs.Told.Reading.{Accepted, Refused}
 
 -- 3: in a book a tag other than 5; in a case a first field that is no head, a second head or a falling tag
 unfoldable pub out_of_place : Bool → Seen → ℕ → Bool
@@ -21,11 +21,11 @@ out_of_place book s tag =
 -- 5: one station, track, train, table or couple too many
 unfoldable pub too_many : Seen → ℕ → Bool
 too_many s tag =
-    cond (eqb tag 2) (leb 24 s.stations)
-    (cond (eqb tag 3) (leb 40 s.tracks)
-    (cond (eqb tag 4) (leb most_trains s.trains)
-    (cond (eqb tag 5) (leb 8 s.tables)
-    (cond (eqb tag 6) (leb 20 s.couples) false))))
+    cond (eqb tag 2) (leb 24 s.counts.stations)
+    (cond (eqb tag 3) (leb 40 s.counts.tracks)
+    (cond (eqb tag 4) (leb most_trains s.counts.trains)
+    (cond (eqb tag 5) (leb 8 s.counts.tables)
+    (cond (eqb tag 6) (leb 20 s.counts.couples) false))))
 
 -- 2, 3, 4, 1 and 5, in this order, of a field with this tag and n bytes of body in a file of `size` bytes
 unfoldable pub frame_verdict : ℕ → Bool → Seen → ℕ → ℕ → ℕ
@@ -39,17 +39,17 @@ frame_verdict size book s tag n =
 
 -- where the tracks begin: after the head's 8 bytes and each station's 4
 abbrev pub base : Seen → ℕ
-base s = 8 * s.heads + 4 * s.stations
+base s = 8 * s.heads + 4 * s.counts.stations
 
 -- 6 to 10 and 18, by tag, of the body b after the bytes earlier
 unfoldable pub body_verdict : List ℕ → Seen → ℕ → List ℕ → ℕ
 body_verdict earlier s tag b =
     cond (eqb tag 1) (head_verdict b)
     (cond (eqb tag 2) (station_verdict b)
-    (cond (eqb tag 3) (track_verdict earlier (base s) s.tracks s.stations b)
-    (cond (eqb tag 4) (train_verdict earlier (base s) s.tracks s.stations b)
-    (cond (eqb tag 6) (couple_verdict earlier (base s) s.tracks s.couples b)
-    (table_verdict s.tables s.kind b)))))
+    (cond (eqb tag 3) (track_verdict earlier (base s) s.counts.tracks s.counts.stations b)
+    (cond (eqb tag 4) (train_verdict earlier (base s) s.counts.tracks s.counts.stations b)
+    (cond (eqb tag 6) (couple_verdict earlier (base s) s.counts.tracks s.counts.couples b)
+    (table_verdict s.counts.tables s.kind b)))))
 
 -- the first of two numbers that is not 0
 abbrev pub or_else : ℕ → ℕ → ℕ
@@ -85,12 +85,14 @@ after s tag end b = record {
   at = end;
   tag = tag;
   heads = counted tag 1 s.heads;
-  stations = counted tag 2 s.stations;
-  tracks = counted tag 3 s.tracks;
-  trains = counted tag 4 s.trains;
-  tables = counted tag 5 s.tables;
-  couples = counted tag 6 s.couples;
   kind = newer tag b s.kind;
+  counts = record {
+    stations = counted tag 2 s.counts.stations;
+    tracks = counted tag 3 s.counts.tracks;
+    trains = counted tag 4 s.counts.trains;
+    tables = counted tag 5 s.counts.tables;
+    couples = counted tag 6 s.counts.couples;
+  };
 }
 
 unfoldable pub next : List ℕ → Seen → Seen
@@ -104,15 +106,15 @@ unfoldable pub field_of : Bool → List ℕ → Seen → Judged
 field_of book l s = judged (field_verdict book l s) (next l s)
 
 abbrev pub counts_seen : Seen → Counts
-counts_seen s = record { stations = s.stations; tracks = s.tracks; trains = s.trains; tables = s.tables; couples = s.couples }
+counts_seen s = s.counts
 
 -- the end of a file: 5 for a case with no head, station or train
 unfoldable pub at_end : Bool → ℕ → Seen → Reading
 at_end book size s =
     cond book (Accepted (counts_seen s))
     (cond (eqb s.heads 0) (Refused (number wrong_count) size)
-    (cond (eqb s.stations 0) (Refused (number wrong_count) size)
-    (cond (eqb s.trains 0) (Refused (number wrong_count) size)
+    (cond (eqb s.counts.stations 0) (Refused (number wrong_count) size)
+    (cond (eqb s.counts.trains 0) (Refused (number wrong_count) size)
     (Accepted (counts_seen s)))))
 
 -- a field that is not sound ends the reading with its number, at its tag's offset
@@ -133,7 +135,7 @@ read_from (suc n) book l s =
     (turn (read_from n book l) s.at (field_of book l s))
 
 abbrev pub start : Seen
-start = record { at = 0; tag = 0; heads = 0; stations = 0; tracks = 0; trains = 0; tables = 0; couples = 0; kind = 0 }
+start = record { at = 0; tag = 0; heads = 0; kind = 0; counts = record { stations = 0; tracks = 0; trains = 0; tables = 0; couples = 0 } }
 
 -- a file, from its first byte: a field has at least three bytes, so there are never more fields than bytes
 unfoldable pub reading : Bool → List ℕ → Reading

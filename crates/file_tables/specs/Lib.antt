@@ -2,3 +2,4 @@ pub mod Lists
 pub mod Model
 pub mod Fills
 pub mod Walks
+pub mod Numbers

@@ -1,8 +1,9 @@
 -- The laws by which each function reads a train's stops and the tracks: what one turn of its loop does, and what its end leaves.
 -- Each opens the definition at its next stop or track. Assumes nothing.
 use Rattle.std.proofs.Math.Path.{◌≡◌, refl, ap}
-use Rattle.std.proofs.Common.{sym, ◌∙◌, append-nil, not-suc-le-zero, zero-add, length-append, length-set}
-use Rattle.std.specs.Prelude.{Bool, cond, List, [], ◌∷◌, ◌++◌, length, take, drop, set, replicate, eqb}
+use Rattle.std.proofs.Common.{sym, ◌∙◌, append-nil, not-suc-le-zero, length-append, length-set}
+use Rattle.std.specs.Prelude.{Bool, cond, List, [], ◌∷◌, ◌++◌, length, take, drop, set, replicate, eqb, Option, Some, None, MatchOption}
+use Rattle.std.specs.List.{find, range_with_len}
 use Rattle.std.proofs.Math.Bool.{true, false}
 use Prim.Native.Nat.{ℕ, zero, suc, ◌+◌, ◌-◌, ◌*◌, ◌≤◌, ◌<◌}
 use native.Mathlib.Omega.{arith}
@@ -16,19 +17,30 @@ use Rattle.file_tables.specs.Fills.{pad_length, length-rows}
 
 -- ---- the track between two stations
 
-module _ (cs : List ℕ) (from to : ℕ) where
-  pub track-start : (r o : ℕ) → 0 + track_from from to (tracks_from cs (r - 0) o) ≡ track_from from to (tracks_from cs r o)
-  track-start r o = let e : r - 0 ≡ r = omega arith in rw e (zero-add _)
+-- the first of n tracks from the i-th on that leads there
+module _ (cs : List ℕ) (from to o : ℕ) where
+  pub track_found : (n i : ℕ) → MatchOption (find (λ j. leads from to (track_in cs (o + 6 * j))) (range_with_len i n))
+      (track_from from to (tracks_from cs n (o + 6 * i)) ≡ n) (λ j. (j ≡ i + track_from from to (tracks_from cs n (o + 6 * i))) × (j < i + n))
+  track_found zero i = refl
+  track_found (suc n) i =
+      let e : o + 6 * i + 6 ≡ o + 6 * (i + 1) = omega arith in
+      rw e (step (leads from to (track_in cs (o + 6 * i))) _ _ (track_found n (i + 1)))
+    where
+      step : (b : Bool) (t : ℕ) (r : Option ℕ) → MatchOption r (t ≡ n) (λ j. (j ≡ i + 1 + t) × (j < i + 1 + n))
+          → MatchOption (cond b (Some i) r) (cond b 0 (suc t) ≡ suc n) (λ j. (j ≡ i + cond b 0 (suc t)) × (j < i + suc n))
+      step true t r h = (omega arith, omega arith)
+      step false t None h = ap suc h
+      step false t (Some j) h = (omega arith, omega arith)
 
-  pub track-here : (r j at : ℕ) → j < r → leads from to (track_in cs at) ≡ true → track_from from to (tracks_from cs (r - j) at) ≡ 0
-  track-here r j at h q = let e : r - j ≡ suc (r - (j + 1)) = omega arith in rw (e, q)
-
-  pub track-next : (r j at : ℕ) → j < r → leads from to (track_in cs at) ≡ false
-      → track_from from to (tracks_from cs (r - j) at) ≡ suc (track_from from to (tracks_from cs (r - (j + 1)) (at + 6)))
-  track-next r j at h q = let e : r - j ≡ suc (r - (j + 1)) = omega arith in rw (e, q)
-
-  pub track-end : (r j at : ℕ) → r ≤ j → track_from from to (tracks_from cs (r - j) at) ≡ 0
-  track-end r j at h = let e : r - j ≡ 0 = omega arith in rw e
+  pub track_first : (n : ℕ) → MatchOption (find (λ j. leads from to (track_in cs (o + 6 * j))) (range_with_len 0 n))
+      (track_from from to (tracks_from cs n o) ≡ n) (λ j. (j ≡ track_from from to (tracks_from cs n o)) × (j < n))
+  track_first n =
+      let e : o + 6 * 0 ≡ o = omega arith in
+      go _ _ (rw e at (track_found n 0))
+    where
+      go : (r : Option ℕ) (t : ℕ) → MatchOption r (t ≡ n) (λ j. (j ≡ 0 + t) × (j < 0 + n)) → MatchOption r (t ≡ n) (λ j. (j ≡ t) × (j < n))
+      go None t h = h
+      go (Some j) t h = (omega arith, omega arith)
 
 -- ---- the partner of a track
 

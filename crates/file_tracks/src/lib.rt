@@ -1,84 +1,29 @@
-// What is sound in the body of a track's or a couple's field. A function answers the refusal's number, and 0 where nothing is wrong.
+// What is sound in the body of a track's or a couple's field. A verdict is what is wrong, if anything is.
 #![tactic(auto)]
 
-ghost use Rattle.std.specs.Prelude.{◌≡◌, ◌*◌, ◌≤◌, length};
+ghost use Rattle.std.specs.Prelude.{◌≡◌, ◌+◌, ◌*◌, ◌≤◌, ◌<◌, length};
+ghost use Rattle.file_fields.specs.Faults.{number_in};
 ghost use Rattle.file_bodies.specs.Bodies.{ends, joined, track_verdict, alike, in_couple, taken, couple_verdict};
 
-use file_fields::refusals;
+use file_fields::refusals::Fault;
 
-// Whether the track's field at i has the ends f and t.
-fn ends_at(earlier: &[u8], i: usize, f: usize, t: usize) -> bool
-    requires { i ≤ 65536 }
-    ensures { result ≡ ends earlier.now i f t }
-{
-    if file_fields::byte(earlier, i + 3) == f {
-        return file_fields::byte(earlier, i + 4) == t;
-    }
-    false
-}
-
-// Whether one of n tracks, in fields of six bytes from base on, has the ends f and t.
-pub fn has_track(earlier: &[u8], base: usize, n: usize, f: usize, t: usize) -> bool
-    requires { (base ≤ 4096) × (n ≤ 40) }
-    ensures { result ≡ joined earlier.now base n f t }
-{
-    let mut j = 0;
-    while j < n {
-        if ends_at(earlier, base + 6 * j, f, t) {
-            return true;
-        }
-        j += 1;
-    }
-    false
-}
-
-// A track: its capacity is in range, and its ends are two known stations that no earlier track joins this way.
-pub fn track_verdict(earlier: &[u8], base: usize, n: usize, stations: usize, body: &[u8]) -> usize
-    requires { (base ≤ 4096) × (n ≤ 40) }
-    ensures { result ≡ track_verdict earlier.now base n stations body.now }
-{
-    let f = file_fields::byte(body, 0);
-    let t = file_fields::byte(body, 1);
-    if file_fields::byte(body, 2) == 0 {
-        return refusals::OUT_OF_RANGE;
-    }
-    if stations <= f {
-        return refusals::WRONG_ENDS;
-    }
-    if stations <= t {
-        return refusals::WRONG_ENDS;
-    }
-    if f == t {
-        return refusals::WRONG_ENDS;
-    }
-    if has_track(earlier, base, n, f, t) {
-        return refusals::WRONG_ENDS;
-    }
-    0
-}
-
-// Whether the tracks' fields at i and j have ends that mirror and equal capacities.
-fn alike_at(earlier: &[u8], i: usize, j: usize) -> bool
-    requires { (i ≤ 65536) × (j ≤ 65536) }
-    ensures { result ≡ alike earlier.now i j }
-{
-    let to = file_fields::byte(earlier, j + 4);
-    let from = file_fields::byte(earlier, j + 3);
-    if ends_at(earlier, i, to, from) {
-        return file_fields::byte(earlier, i + 5) == file_fields::byte(earlier, j + 5);
-    }
-    false
+// What a case says before a field: its bytes, the place among them where its tracks begin, in fields of six bytes, and how many tracks and stations it has.
+#[derive(Clone, Copy)]
+pub struct Known<'a> {
+    pub bytes: &'a [u8],
+    pub base: usize,
+    pub tracks: usize,
+    pub stations: usize,
+    pub ghost few: { (base ≤ 4096) × (tracks ≤ 40) },
 }
 
 // Whether the couple's field at i has the track t.
+#[tactic(auto, unfolding(file_bodies::specs::Bodies::in_couple))]
 fn in_couple(earlier: &[u8], i: usize, t: usize) -> bool
     requires { i ≤ 65536 }
     ensures { result ≡ in_couple earlier.now i t }
 {
-    if t == file_fields::byte(earlier, i + 3) {
-        return true;
-    }
-    t == file_fields::byte(earlier, i + 4)
+    t == file_fields::byte(earlier, i + 3) || t == file_fields::byte(earlier, i + 4)
 }
 
 // Whether one of n couples, in fields of five bytes from first on, has the track t.
@@ -86,39 +31,74 @@ fn is_taken(earlier: &[u8], first: usize, n: usize, t: usize) -> bool
     requires { (first ≤ 4096) × (n ≤ 20) }
     ensures { result ≡ taken earlier.now first n t }
 {
-    let mut k = 0;
-    while k < n {
-        if in_couple(earlier, first + 5 * k, t) {
-            return true;
-        }
-        k += 1;
-    }
-    false
+    (0..n).any(|k| in_couple(earlier, first + 5 * k, t))
 }
 
-// A couple after n others: two known tracks whose ends mirror, of equal capacity, neither of them already coupled.
-pub fn couple_verdict(earlier: &[u8], base: usize, tracks: usize, n: usize, body: &[u8]) -> usize
-    requires base_bound { (base ≤ 4096) × (tracks ≤ 40) }
-    requires n_bound { (n ≤ 20) × (5 * n ≤ length earlier.now) × (length earlier.now ≤ 4096) }
-    ensures { result ≡ couple_verdict earlier.now base tracks n body.now }
-{
-    let i = file_fields::byte(body, 0);
-    let j = file_fields::byte(body, 1);
-    let first = earlier.len() - 5 * n;
-    if tracks <= i {
-        return refusals::WRONG_COUPLE;
+impl Known<'_> {
+    // Whether track j leads between these ends.
+    #[tactic(auto, unfolding(file_bodies::specs::Bodies::ends))]
+    fn leads(&self, j: usize, from: usize, to: usize) -> bool
+        requires { j < self.now.tracks }
+        ensures { result ≡ ends self.now.bytes.now (self.now.base + 6 * j) from to }
+    {
+        let at = self.base + 6 * j;
+        file_fields::byte(self.bytes, at + 3) == from && file_fields::byte(self.bytes, at + 4) == to
     }
-    if tracks <= j {
-        return refusals::WRONG_COUPLE;
+
+    // Whether one of the tracks leads between these ends.
+    pub fn has_track(&self, from: usize, to: usize) -> bool
+        ensures { result ≡ joined self.now.bytes.now self.now.base self.now.tracks from to }
+    {
+        (0..self.tracks).any(|j| self.leads(j, from, to))
     }
-    if !alike_at(earlier, base + 6 * i, base + 6 * j) {
-        return refusals::WRONG_COUPLE;
+
+    // Whether tracks i and j have ends that mirror and equal capacities.
+    #[tactic(auto, unfolding(file_bodies::specs::Bodies::alike))]
+    fn are_alike(&self, i: usize, j: usize) -> bool
+        requires { (i < self.now.tracks) × (j < self.now.tracks) }
+        ensures { result ≡ alike self.now.bytes.now (self.now.base + 6 * i) (self.now.base + 6 * j) }
+    {
+        let one = self.base + 6 * i;
+        let other = self.base + 6 * j;
+        let to = file_fields::byte(self.bytes, other + 4);
+        let from = file_fields::byte(self.bytes, other + 3);
+        self.leads(i, to, from)
+            && file_fields::byte(self.bytes, one + 5) == file_fields::byte(self.bytes, other + 5)
     }
-    if is_taken(earlier, first, n, i) {
-        return refusals::WRONG_COUPLE;
+
+    // A track: its capacity is in range, and its ends are two known stations that no earlier track joins this way.
+    #[tactic(auto, unfolding(file_bodies::specs::Bodies::track_verdict))]
+    pub fn track_verdict(&self, body: &[u8]) -> Result<(), Fault>
+        ensures { number_in result ≡ track_verdict self.now.bytes.now self.now.base self.now.tracks self.now.stations body.now }
+    {
+        let from = file_fields::byte(body, 0);
+        let to = file_fields::byte(body, 1);
+        if file_fields::byte(body, 2) == 0 {
+            return Err(Fault::OutOfRange);
+        }
+        if self.stations <= from || self.stations <= to || from == to || self.has_track(from, to) {
+            return Err(Fault::WrongEnds);
+        }
+        Ok(())
     }
-    if is_taken(earlier, first, n, j) {
-        return refusals::WRONG_COUPLE;
+
+    // A couple after n others: two known tracks whose ends mirror, of equal capacity, neither of them already coupled.
+    #[tactic(auto, unfolding(file_bodies::specs::Bodies::couple_verdict))]
+    pub fn couple_verdict(&self, n: usize, body: &[u8]) -> Result<(), Fault>
+        requires { (n ≤ 20) × (5 * n ≤ length self.now.bytes.now) × (length self.now.bytes.now ≤ 4096) }
+        ensures { number_in result ≡ couple_verdict self.now.bytes.now self.now.base self.now.tracks n body.now }
+    {
+        let i = file_fields::byte(body, 0);
+        let j = file_fields::byte(body, 1);
+        let first = self.bytes.len() - 5 * n;
+        if self.tracks <= i
+            || self.tracks <= j
+            || !self.are_alike(i, j)
+            || is_taken(self.bytes, first, n, i)
+            || is_taken(self.bytes, first, n, j)
+        {
+            return Err(Fault::WrongCouple);
+        }
+        Ok(())
     }
-    0
 }

@@ -7,7 +7,6 @@ use Rattle.rules.specs.Viewer.View.{field, ended, overruns}
 use Rattle.file_fields.specs.declared.Field.{Field}
 use Rattle.file_fields.specs.declared.Field.TheVariants.{Whole, Ended, Overrun}
 use Rattle.file_fields.specs.Fields.{field_of}
-use Rattle.file_viewer.specs.declared.Given.{Given}
 use Rattle.file_viewer.specs.declared.Viewing.{Viewing}
 
 -- the place after the code's answer at i: past a field; at the end and with refusal 1 the viewer stays
@@ -15,10 +14,6 @@ abbrev pub place_after : ℕ → Field → ℕ
 place_after i (Whole tag size end) = end
 place_after i Ended = i
 place_after i Overrun = i
-
--- what a viewer at i gives, and where it stands then
-abbrev pub given_at : List ℕ → ℕ → Given
-given_at l i = record { field = field_of (viewed l i); next = next_place i (viewed l i) }
 
 -- where a viewer that started at the file's start stands once it has given n times, and what it gives then
 abbrev pub viewing : List ℕ → ℕ → Viewing

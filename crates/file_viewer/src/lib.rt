@@ -1,11 +1,11 @@
 // The field viewer of the planning desk: it holds a file's bytes and its place and gives one field after another. It judges no
-// tag and no length. The functions over the struct are thin; `nth` takes plain parameters and serves every other caller.
+// tag and no length.
 #![tactic(auto)]
 
 ghost use Rattle.std.specs.Prelude.{◌≡◌};
 ghost use Rattle.rules.specs.Viewer.{viewed, next_place};
 ghost use Rattle.file_fields.specs.Fields.{field_of};
-ghost use Rattle.file_viewer.specs.Viewing.{place_after, given_at, viewing};
+ghost use Rattle.file_viewer.specs.Viewing.{place_after, viewing};
 
 use file_fields::Field;
 
@@ -22,72 +22,45 @@ pub struct Viewing {
     pub field: Field,
 }
 
-// What a viewer gave, and the place at which it stands then.
-#[derive(Clone, Copy)]
-pub struct Given {
-    pub field: Field,
-    pub next: usize,
-}
-
 // The place after what was given: past a field; at the end and with refusal 1 it stays.
-fn place_after(place: usize, f: Field) -> usize
-    ensures { result ≡ place_after place f }
+fn place_after(place: usize, given: Field) -> usize
+    ensures { result ≡ place_after place given }
 {
-    match f {
-        Field::Whole {
-            tag: _,
-            size: _,
-            end,
-        } => end,
-        Field::Ended => place,
-        Field::Overrun => place,
+    match given {
+        Field::Whole { end, .. } => end,
+        Field::Ended | Field::Overrun => place,
     }
 }
 
-// A viewer of a file's bytes at a place; 0 is the file's start.
-pub fn at<'a>(bytes: &'a [u8], place: usize) -> Viewer<'a>
-    ensures { (result.bytes ≡ bytes.entry) × (result.place ≡ place) }
-{
-    Viewer { bytes, place }
-}
+impl<'a> Viewer<'a> {
+    // A viewer of a file's bytes at a place; 0 is the file's start.
+    pub fn at(bytes: &'a [u8], place: usize) -> Self
+        ensures { (result.bytes ≡ bytes.entry) × (result.place ≡ place) }
+    {
+        Viewer { bytes, place }
+    }
 
-// Gives what stands at the viewer's place, and goes past it if it is a field.
-pub fn give<'s, 'a>(v: &'s mut Viewer<'a>) -> Field
-    ensures { (result ≡ field_of (viewed v.old.bytes.now v.old.place))
-        × (v.new.bytes ≡ v.old.bytes)
-        × (v.new.place ≡ next_place v.old.place (viewed v.old.bytes.now v.old.place)) }
-{
-    let f = file_fields::field_at(v.bytes, v.place);
-    let next = place_after(v.place, f);
-    v.place = next;
-    f
-}
-
-// What a viewer of the file at a place gives, and where it stands then.
-fn give_at(file: &[u8], place: usize) -> Given
-    ensures { result ≡ given_at file.now place }
-{
-    let mut v = at(file, place);
-    let field = give(&mut v);
-    Given {
-        field,
-        next: v.place,
+    // Gives what stands at the viewer's place, and goes past it if it is a field.
+    pub fn give(&mut self) -> Field
+        ensures { (result ≡ field_of (viewed self.old.bytes.now self.old.place))
+            × (self.new.bytes ≡ self.old.bytes)
+            × (self.new.place ≡ next_place self.old.place (viewed self.old.bytes.now self.old.place)) }
+    {
+        let given = file_fields::field_at(self.bytes, self.place);
+        self.place = place_after(self.place, given);
+        given
     }
 }
 
-// What a viewer that starts at the file's start gives after it has given n times.
+// What a viewer that starts at the file's start gives after it has given n times; n counts fields, not bytes.
 pub fn nth(file: &[u8], n: usize) -> Viewing
     ensures { result ≡ viewing file.now n }
 {
-    let mut left = n;
-    let mut place = 0;
-    loop {
-        let v = give_at(file, place);
-        if left == 0 {
-            let field = v.field;
-            return Viewing { place, field };
-        }
-        left -= 1;
-        place = v.next;
+    let mut viewer = Viewer::at(file, 0);
+    for _ in 0..n {
+        viewer.give();
     }
+    let place = viewer.place;
+    let field = viewer.give();
+    Viewing { place, field }
 }

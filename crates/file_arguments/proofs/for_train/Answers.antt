@@ -1,13 +1,17 @@
 -- `file_arguments::for_train` meets its contract: each return is one of the ways in which 01 answers. Assumes nothing.
-use mathlib.Core.Path.{sym, ◌∙◌}
+use mathlib.Core.Path.{ap, sym, ◌∙◌}
+use Rattle.std.proofs.lemmas.Result.{err_from_is_err_and}
+use Rattle.file_lookup.specs.Told.{told}
 use Rattle.file_arguments.specs.Laws.{train-files, train-none, train-sound}
 use Rattle.file_arguments.proofs.for_train.Goals as goal
 
-pub returns-in_default : goal.returns-in_default
-returns-in_default c = train-files _ _ c.read_files-f.ensures c.in_default.is _
+pub returns-in_err-sizes : goal.returns-in_err-sizes
+returns-in_err-sizes c =
+    let p = err_from_is_err_and c.from_residual.result c.from_residual.ensures.1 in
+    rw (p.1, p.2) (sym (ap told c.in_err-sizes.was) ∙ train-files _ _ c.read_files.ensures (ap told c.in_err-sizes.was) _)
 
-pub returns-then-s-train : goal.returns-then-s-train
-returns-then-s-train c = train-none _ _ c.read_files-f.ensures c.in-Sound.is _ c.if-s-train.true
+pub returns-then-sizes-train : goal.returns-then-sizes-train
+returns-then-sizes-train c = rw c.nowhere.ensures (train-none _ _ c.read_files.ensures (ap told c.in_ok-sizes.was) _ c.if-sizes-train.true)
 
 pub returns : goal.returns
-returns c = sym c.in-Sound.is ∙ train-sound _ _ c.read_files-f.ensures c.in-Sound.is _ c.if-s-train.false
+returns c = sym (ap told c.in_ok-sizes.was) ∙ train-sound _ _ c.read_files.ensures (ap told c.in_ok-sizes.was) _ c.if-sizes-train.false

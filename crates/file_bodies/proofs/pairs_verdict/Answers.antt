@@ -8,7 +8,7 @@ use Rattle.file_bodies.proofs.pairs_verdict.Goals as goal
 
 pub loop-k-init : goal.loop-k-init
 unfolding pairs_verdict
-loop-k-init c = (omega arith, any_none _, sym (sum-none _), omega arith)
+loop-k-init c = (any_none _, sym (sum-none _), omega arith)
 
 pub returns-then-bad_pair : goal.returns-then-bad_pair
 unfolding pairs_verdict
@@ -18,9 +18,8 @@ pub loop-k-preserved : goal.loop-k-preserved
 unfolding pairs_verdict
 loop-k-preserved c =
     let l = c.loop-k in (
-      omega arith,
-      any-more _ _ l.invariant.1 (sym c.bad_pair.ensures ∙ c.if-bad_pair.false),
-      rw (sum_more, ← l.invariant.2, ← c.byte-total.ensures.0),
+      any-more _ _ l.invariant.0 (sym c.bad_pair.ensures ∙ c.if-bad_pair.false),
+      rw (sum_more, ← l.invariant.1, ← c.byte-total.ensures.0),
       omega arith,
     )
 
@@ -28,10 +27,10 @@ pub returns-then-total-eq100 : goal.returns-then-total-eq100
 unfolding pairs_verdict
 returns-then-total-eq100 c =
     let l = c.loop-k in
-    simp (any-end _ _ _ l.invariant.0 c.loop-k-test.false l.invariant.1, sum-end _ _ _ l.invariant.0 c.loop-k-test.false l.invariant.2, eq-eqb _ _ c.if-total-eq100.true)
+    simp (any-end _ _ _ l.auto.k-end c.loop-k-test.false l.invariant.0, sum-end _ _ _ l.auto.k-end c.loop-k-test.false l.invariant.1, eq-eqb _ _ c.if-total-eq100.true)
 
 pub returns : goal.returns
 unfolding pairs_verdict
 returns c =
     let l = c.loop-k in
-    simp (any-end _ _ _ l.invariant.0 c.loop-k-test.false l.invariant.1, sum-end _ _ _ l.invariant.0 c.loop-k-test.false l.invariant.2, ne_eqb _ _ c.if-total-eq100.false)
+    simp (any-end _ _ _ l.auto.k-end c.loop-k-test.false l.invariant.0, sum-end _ _ _ l.auto.k-end c.loop-k-test.false l.invariant.1, ne_eqb _ _ c.if-total-eq100.false)

@@ -1,13 +1,18 @@
--- `file_lookup::no_table` meets its contract: each return is one case of the definition. Assumes nothing.
-use mathlib.Core.Path.{sym}
-use borrow.Author.Tests.{lt-ltb, le-ltb}
-use Rattle.file_lookup.specs.Lookup.{untabled}
+-- `file_lookup::no_table` meets its contract: neither file has a place for the table. Assumes nothing.
+use Rattle.std.proofs.Common.{sym}
+use Rattle.std.proofs.Math.Bool.{not-not}
+use Rattle.file_lookup.specs.Search.{table-missing}
 use Rattle.file_lookup.proofs.no_table.Goals as goal
 
-pub returns-then-i-case : goal.returns-then-i-case
-unfolding untabled
-returns-then-i-case c = simp (sym c.table_at-i.ensures, lt-ltb _ _ c.if-i-case.true)
+pub returns-then-is_none : goal.returns-then-is_none
+returns-then-is_none c =
+    let a = c.is_none.ensures in
+    let b = c.is_none-then-is_none.ensures in
+    let t = c.if-is_none.true in
+    rw (table-missing, ← c.table_at.ensures, ← c.table_at-then-is_none.ensures, a, t, b) (sym (not-not _))
 
-pub returns : goal.returns
-unfolding untabled
-returns c = simp (sym c.table_at-i.ensures, le-ltb _ _ c.if-i-case.false, sym c.table_at.ensures)
+pub returns-else-is_none : goal.returns-else-is_none
+returns-else-is_none c =
+    let a = c.is_none.ensures in
+    let t = c.if-is_none.false in
+    rw (table-missing, ← c.table_at.ensures, a, t)

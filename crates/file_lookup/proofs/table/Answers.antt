@@ -1,14 +1,17 @@
--- `file_lookup::table` meets its contract: the case's walk decides whether the book is walked. Assumes nothing.
-use mathlib.Core.Path.{sym}
-use borrow.Author.Tests.{lt-ltb, le-ltb}
-use Rattle.file_lookup.specs.Lookup.{table_bytes}
+-- `file_lookup::table` meets its contract: the case's table is used, and otherwise the book's. Assumes nothing.
+use Rattle.std.proofs.Common.{refl, sym, ◌∙◌, Some, None}
+use Rattle.file_lookup.specs.Search.{table-chosen}
 use Rattle.file_lookup.specs.Final.{looked}
 use Rattle.file_lookup.proofs.table.Goals as goal
 
-pub returns-then-i-case : goal.returns-then-i-case
-unfolding table_bytes
-returns-then-i-case c = looked (simp (sym c.table_at-i.ensures, lt-ltb _ _ c.if-i-case.true) c.body_at.ensures)
+pub returns-in-Some : goal.returns-in-Some
+returns-in-Some c = looked (c.body_at.ensures ∙ sym (table-chosen _ _ _ (Some _) _ (sym c.table_at.ensures ∙ c.in-Some.is) refl))
 
-pub returns : goal.returns
-unfolding table_bytes
-returns c = looked (simp (sym c.table_at-i.ensures, le-ltb _ _ c.if-i-case.false, sym c.table_at-j.ensures) c.body_at-2.ensures)
+pub returns-in-Some-table_at : goal.returns-in-Some-table_at
+returns-in-Some-table_at c =
+    looked
+    (c.body_at-in-Some-table_at.ensures
+    ∙ sym (table-chosen _ _ _ None (Some _) (sym c.table_at.ensures ∙ c.in_default.is) (sym c.table_at-2.ensures ∙ c.in-Some-table_at.is)))
+
+pub returns-in-None : goal.returns-in-None
+returns-in-None c = looked (sym (table-chosen _ _ _ None None (sym c.table_at.ensures ∙ c.in_default.is) (sym c.table_at-2.ensures ∙ c.in-None.is)))

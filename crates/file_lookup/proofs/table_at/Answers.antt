@@ -1,40 +1,7 @@
--- `file_lookup::table_at` meets its contract: the walk's law says what is left of it, and each turn passes one field. Assumes nothing.
-use native.Mathlib.Omega.{arith}
-use mathlib.Core.Path.{ap, sym, ◌∙◌}
-use mathlib.Core.Logic.{⊎_elim}
-use denote.Enum.Declared
-use Rattle.file_fields.specs.contracts.Field
-use Rattle.file_fields.specs.Walk.{field-here, field-gone}
-use Rattle.file_lookup.specs.Laws.{left-start, left_end, left_here, left-next}
-use borrow.Enum.Refused.{opened}
+-- `file_lookup::table_at` meets its contract: the search's test is that of a table. Assumes nothing.
+use Rattle.std.proofs.Common.{◌∙◌, rules}
+use Rattle.file_lookup.specs.Search.{first-found}
 use Rattle.file_lookup.proofs.table_at.Goals as goal
 
-pub loop-end-init : goal.loop-end-init
-loop-end-init c = left-start _ _
-
-pub returns-in_default : goal.returns-in_default
-returns-in_default c =
-    left_end c.loop-end.invariant
-    (field-gone _ _ (λ t n e q.
-    let z = ap (Declared.tag_of Field.the_type) (c.field_at-f.ensures ∙ q) in
-    ⊎_elim (λ k. omega arith) (λ k. omega arith) (opened c.in_default.in_default-own.keys2)))
-
-pub is_table-requires : goal.is_table-requires
-is_table-requires c =
-    let w = field-here _ _ _ _ _ (sym c.field_at-f.ensures ∙ c.in-Whole.is) in
-    omega arith
-
-pub returns-then-is_table : goal.returns-then-is_table
-returns-then-is_table c =
-    let w = field-here _ _ _ _ _ (sym c.field_at-f.ensures ∙ c.in-Whole.is) in
-    left_here c.loop-end.invariant w.stands (sym c.is_table.ensures ∙ c.if-is_table.true)
-
-pub loop-end-smaller : goal.loop-end-smaller
-loop-end-smaller c =
-    let w = field-here _ _ _ _ _ (sym c.field_at-f.ensures ∙ c.in-Whole.is) in
-    omega arith
-
-pub loop-end-preserved : goal.loop-end-preserved
-loop-end-preserved c =
-    let w = field-here _ _ _ _ _ (sym c.field_at-f.ensures ∙ c.in-Whole.is) in
-    rw w.ends (left-next c.loop-end.invariant w.stands (sym c.is_table.ensures ∙ c.if-is_table.false))
+pub returns : goal.returns
+returns c = c.nth_place.ensures _ (record { same = λ i b h p. search rules }) ∙ first-found _ _

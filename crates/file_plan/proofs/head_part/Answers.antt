@@ -11,5 +11,5 @@ pub returns : goal.returns
 unfolding head_part
 returns c =
     let g = c.args in
-    two-parts g.out.now c.heads.new.out c.order.new.out 8 8 (ap length c.heads.ensures) (ap length c.order.ensures ∙ order-row-length (priority_of g.case.now g.o g.n) g.n (omega arith)) (omega arith)
+    two-parts g.out.now c.heads.new.out c.order.new.out 8 8 (ap length c.heads.ensures) (ap length c.order.ensures ∙ order-row-length (priority_of g.case.now g.trains.at g.trains.count) g.trains.count (omega arith)) (omega arith)
     ∙ ap₂ ◌++◌ c.heads.ensures c.order.ensures

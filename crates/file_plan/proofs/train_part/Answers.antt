@@ -14,11 +14,11 @@ returns c =
     let cs = g.case.now in
     let bk = g.book.now in
     four_parts g.out.now c.train_table.new.out c.train_table-2.new.out 8 8
-    (ap length c.train_table.ensures ∙ train-row-length cs bk g.n g.o 0 (omega arith))
-    (ap length c.train_table-2.ensures ∙ train-row-length cs bk g.n g.o 1 (omega arith))
+    (ap length c.train_table.ensures ∙ train-row-length cs bk g.trains.count g.trains.at 0 (omega arith))
+    (ap length c.train_table-2.ensures ∙ train-row-length cs bk g.trains.count g.trains.at 1 (omega arith))
     c.train_table-3.new.out 16 8 refl
-    (ap length c.train_table-3.ensures ∙ train-row-length cs bk g.n g.o 2 (omega arith))
+    (ap length c.train_table-3.ensures ∙ train-row-length cs bk g.trains.count g.trains.at 2 (omega arith))
     c.train_table-4.new.out 24 8 refl
-    (ap length c.train_table-4.ensures ∙ train-row-length cs bk g.n g.o 3 (omega arith))
+    (ap length c.train_table-4.ensures ∙ train-row-length cs bk g.trains.count g.trains.at 3 (omega arith))
     (omega arith)
     ∙ ap₂ ◌++◌ c.train_table.ensures (ap₂ ◌++◌ c.train_table-2.ensures (ap₂ ◌++◌ c.train_table-3.ensures c.train_table-4.ensures))

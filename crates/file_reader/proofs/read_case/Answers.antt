@@ -1,5 +1,5 @@
 -- `file_reader::read_case` meets its contract: the reading by offset agrees with 01's. Assumes nothing.
-use mathlib.Core.Path.{◌∙◌}
+use Rattle.std.proofs.Common.{◌∙◌}
 use Rattle.rules.specs.Files as files
 use Rattle.file_reader.specs.Agree.{reading_agrees}
 use Rattle.file_reader.proofs.read_case.Goals as goal

@@ -1,22 +1,14 @@
--- `file_tracks::is_taken` meets its contract: the loop searches the couples by index. Assumes nothing.
-use native.Mathlib.Omega.{arith}
-use mathlib.Core.Path.{sym, ◌∙◌}
-use Rattle.file_bodies.specs.Bodies.{taken}
-use Rattle.file_bodies.specs.Search.{any_none, any-more, any_here, any-end}
+-- `file_tracks::is_taken` meets its contract: `any` over the couples is the search by index. Assumes nothing.
+use Prim.Native.Nat.{◌+◌, ◌*◌}
+use mathlib.Core.Path.{refl}
+use borrow.Author.Rules.{rules}
+use borrow.Author.Tests.{tests}
+use Rattle.file_bodies.specs.Bodies.{in_couple, taken}
+use Rattle.file_bodies.proofs.Any.{any_answers}
 use Rattle.file_tracks.proofs.is_taken.Goals as goal
-
-pub loop-k-init : goal.loop-k-init
-unfolding taken
-loop-k-init c = (omega arith, any_none _)
-
-pub returns-then-in_couple : goal.returns-then-in_couple
-unfolding taken
-returns-then-in_couple c = sym (any_here _ _ _ c.loop-k-test.true (sym c.in_couple.ensures ∙ c.if-in_couple.true))
-
-pub loop-k-preserved : goal.loop-k-preserved
-unfolding taken
-loop-k-preserved c = (omega arith, any-more _ _ c.loop-k.invariant.1 (sym c.in_couple.ensures ∙ c.if-in_couple.false))
 
 pub returns : goal.returns
 unfolding taken
-returns c = sym (any-end _ _ _ c.loop-k.invariant.0 c.loop-k-test.false c.loop-k.invariant.1)
+returns c =
+    let a = c.args in
+    any_answers _ _ _ (λ k. in_couple a.earlier.now (a.first + 5 * k) a.t) _ c.any.ensures.ran refl (λ x q h. search (rules, tests)) (λ x q h. search (rules, tests))

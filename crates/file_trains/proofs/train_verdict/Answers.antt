@@ -1,26 +1,21 @@
--- `file_trains::train_verdict` meets its contract: the loop searches for a bad stop by index, and the times come after it. Assumes nothing.
-use native.Mathlib.Omega.{arith}
-use mathlib.Core.Path.{sym, ◌∙◌}
+-- `file_trains::train_verdict` meets its contract: `any` over the stops is the search by index, and the times come after it. Assumes nothing.
+use mathlib.Core.Path.{refl, sym, ◌∙◌}
+use borrow.Author.Rules.{rules}
+use borrow.Author.Tests.{tests}
 use Rattle.file_bodies.specs.Bodies.{bad_stop, train_verdict}
-use Rattle.file_bodies.specs.Search.{any_none, any-more, any_here, any-end}
+use Rattle.file_bodies.proofs.Any.{any_answers}
 use Rattle.file_trains.proofs.train_verdict.Goals as goal
 
-pub loop-k-init : goal.loop-k-init
+pub returns-then-any : goal.returns-then-any
 unfolding train_verdict
-loop-k-init c = (omega arith, any_none _)
-
-pub returns-then-bad_stop : goal.returns-then-bad_stop
-unfolding train_verdict
-returns-then-bad_stop c =
-    let a = c.args in
-    rw (any_here (bad_stop a.earlier.now a.base a.n a.stations a.body.now) _ _ c.loop-k-test.true (sym c.bad_stop.ensures ∙ c.if-bad_stop.true))
-
-pub loop-k-preserved : goal.loop-k-preserved
-unfolding train_verdict
-loop-k-preserved c = (omega arith, any-more _ _ c.loop-k.invariant.1 (sym c.bad_stop.ensures ∙ c.if-bad_stop.false))
+returns-then-any c =
+    let k = c.args.known.now in
+    let found = any_answers _ _ _ (bad_stop k.bytes.now k.base k.tracks k.stations c.args.body.now) _ c.any.ensures.ran refl (λ x q h. search (rules, tests)) (λ x q h. search (rules, tests)) in
+    rw (sym found ∙ c.if-any.true)
 
 pub returns : goal.returns
 unfolding train_verdict
 returns c =
-    let l = c.loop-k in
-    simp (any-end _ _ _ l.invariant.0 c.loop-k-test.false l.invariant.1) c.times_verdict.ensures
+    let k = c.args.known.now in
+    let found = any_answers _ _ _ (bad_stop k.bytes.now k.base k.tracks k.stations c.args.body.now) _ c.any.ensures.ran refl (λ x q h. search (rules, tests)) (λ x q h. search (rules, tests)) in
+    rw (sym found ∙ c.if-any.false) c.times_verdict.ensures

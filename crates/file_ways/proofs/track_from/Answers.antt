@@ -1,31 +1,22 @@
--- `file_ways::track_from` meets its contract: the tracks passed do not lead there, so what is found among the others, and j, is what is found among all. Assumes nothing.
-use native.Mathlib.Omega.{arith}
-use mathlib.Core.Path.{◌∙◌, sym}
-use Rattle.file_tables.specs.Walks.{track-start, track-here, track-next, track-end}
+-- `file_ways::track_from` meets its contract: the first track that leads there is found, or none does. Assumes nothing.
+use Rattle.std.proofs.Common.{◌≡◌, ℕ, Option, Some, None, ◌+◌, ◌*◌, refl, sym, ◌∙◌, arith, rules, tests, option_map}
+use Rattle.std.proofs.lemmas.Iterator.{YieldsList-from_range}
+use Rattle.std.proofs.lemmas.Iterator.Search.{find_from_yields_List}
+use Rattle.rules.specs.Files.{leads}
+use Rattle.file_tables.specs.Model.{track_in}
+use Rattle.file_tables.specs.Walks.{track_first}
 use Rattle.file_ways.proofs.track_from.Goals as goal
 
-pub loop-j-init : goal.loop-j-init
-loop-j-init c =
-    let g = c.args in
-    (omega arith, omega arith, track-start g.case.now g.from g.to g.r g.o)
-
-pub returns-then-leads_at : goal.returns-then-leads_at
-returns-then-leads_at c =
-    let g = c.args in
-    let l = c.loop-j in
-    let f = track-here g.case.now g.from g.to g.r l.j l.at (omega arith) (sym c.leads_at.ensures ∙ c.if-leads_at.true) in
-    (omega (arith, l.invariant.2), omega arith)
-
-pub loop-j-preserved : goal.loop-j-preserved
-loop-j-preserved c =
-    let g = c.args in
-    let l = c.loop-j in
-    let f = track-next g.case.now g.from g.to g.r l.j l.at (omega arith) (sym c.leads_at.ensures ∙ c.if-leads_at.false) in
-    (omega arith, omega arith, omega (arith, l.invariant.2))
+itself : (r : Option ℕ) → option_map (λ x. x) r ≡ r
+itself None = refl
+itself (Some j) = refl
 
 pub returns : goal.returns
 returns c =
     let g = c.args in
-    let l = c.loop-j in
-    let f = track-end g.case.now g.from g.to g.r l.j l.at (omega arith) in
-    (omega (arith, l.invariant.2), omega arith)
+    let n = g.tracks.count in
+    let o = g.tracks.at in
+    let found =
+    find_from_yields_List (λ j. leads g.from g.to (track_in g.case.now (o + 6 * j))) _ _ c.find.result c.find.ensures.ran (YieldsList-from_range 0 n n refl (omega arith))
+    (λ x b q k. search (rules, tests)) in
+    rw (sym (itself c.find.result) ∙ found) (track_first g.case.now g.from g.to o n)
