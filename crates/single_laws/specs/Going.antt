@@ -32,10 +32,6 @@ pub record Going (T w a : List ℕ) (q : ℕ) : Type 0 where
 abbrev pub Called : List ℕ → List ℕ → ℕ → Type 0
 Called T a q = (turn_rank q < trains_in T) × (get_or a (turn_rank q) 0 ≡ q)
 
--- the run has come to the turn q of a train that is to be served
-abbrev pub AtTurn : List ℕ → List ℕ → List ℕ → ℕ → Type 0
-AtTurn T w a q = Planned T × Going T w a q × Called T a q × (q < never)
-
 -- ---- what a train asks for
 
 module _ (T w : List ℕ) (t k : ℕ) where

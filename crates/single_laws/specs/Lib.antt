@@ -15,3 +15,4 @@ pub mod Asks
 pub mod Trail
 pub mod Going
 pub mod Moves
+pub mod Least

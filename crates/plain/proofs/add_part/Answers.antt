@@ -30,12 +30,6 @@ add_choice-requires c =
     let within = past-within all c.args.first c.args.most in
     (c.requires, omega (arith, c.loop-i-test.true, loop.invariant.0, ends, within.1 (omega (arith, c.loop-i-test.true, loop.invariant.0, ends))), loop.invariant.2)
 
-pub overflow_add-i : goal.overflow_add-i
-overflow_add-i c = omega (arith, c.loop-i-test.true)
-
-pub loop-i-smaller : goal.loop-i-smaller
-loop-i-smaller c = omega (arith, c.loop-i-test.true)
-
 pub loop-i-preserved : goal.loop-i-preserved
 loop-i-preserved c =
     let loop = c.loop-i in
@@ -43,7 +37,7 @@ loop-i-preserved c =
     let step = added_in c.args.tables.now c.args.stop in
     let end = c.past-end.result in (
       omega (arith, loop.invariant.0),
-      omega (arith, c.ws-1.given, loop.invariant.1),
+      omega (arith, loop.invariant.1),
       add-choice.ensures.0,
       ap (fold step (onward end (loop.i + 1))) add-choice.ensures.1
           ∙ sym (fold_next step end loop.i loop.ws c.loop-i-test.true)

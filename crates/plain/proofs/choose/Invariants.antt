@@ -5,6 +5,3 @@ use Rattle.plain.proofs.choose.Given as goal
 
 abbrev pub invariant-loop-k : goal.invariant-loop-k
 invariant-loop-k l = Choosing l.tables l.i l.n l.choice l.k l.left l.weight
-
-abbrev pub decreases-loop-k : goal.decreases-loop-k
-decreases-loop-k l = l.k

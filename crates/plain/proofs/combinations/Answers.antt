@@ -1,5 +1,5 @@
 -- `plain::combinations` meets its contract: the product of the sizes from a train on is that of one train more, times its size. Assumes nothing.
-use Rattle.std.proofs.Common.{◌≡◌, ℕ, ◌+◌, ◌-◌, ◌*◌, ◌^◌, ◌<◌, ◌≤◌, get_or, drop, sym, ap, ◌∙◌, ap₂, arith}
+use Rattle.std.proofs.Common.{◌≡◌, ℕ, ◌+◌, ◌-◌, ◌*◌, ◌^◌, ◌<◌, ◌≤◌, get_or, drop, sym, ap, ◌∙◌, ap₂, arith, mul_comm}
 use Rattle.theory_plain.specs.Numbered.{times}
 use Rattle.plain.specs.Words.{sizes_in}
 use Rattle.plain.specs.Choosing.{times-end, times-next, power_more, eights_fit}
@@ -16,19 +16,13 @@ loop-k-init c =
       omega (arith, ap (λ (j : ℕ). 8 ^ j) none),
     )
 
-pub overflow_add-k : goal.overflow_add-k
-overflow_add-k c = omega (arith, c.loop-k.invariant.0, c.loop-k.invariant.1, c.requires.few)
-
 pub overflow_mul-product : goal.overflow_mul-product
 overflow_mul-product c =
     let loop = c.loop-k in
     let few = c.requires.few in
-    let size : c.at-size.result ≤ 8 = omega (arith, c.at-size.ensures, c.requires.most (loop.k - 1) (omega (arith, loop.invariant.0, loop.invariant.1, c.loop-k-test.true))) in
-    let more = power_more 8 c.at-n.result loop.k c.at-size.result loop.product c.loop-k-test.true loop.invariant.0 size loop.invariant.3 in
-    omega (arith, eights_fit (c.at-n.result - (loop.k - 1)) (c.at-size.result * loop.product) (omega (arith, loop.invariant.1)) more)
-
-pub loop-k-smaller : goal.loop-k-smaller
-loop-k-smaller c = omega (arith, c.loop-k-test.true)
+    let size : c.at-product.result ≤ 8 = omega (arith, c.at-product.ensures, c.requires.most (loop.k - 1) (omega (arith, loop.invariant.0, loop.invariant.1, c.loop-k-test.true))) in
+    let more = power_more 8 c.at-n.result loop.k c.at-product.result loop.product c.loop-k-test.true loop.invariant.0 size loop.invariant.3 in
+    omega (arith, mul_comm loop.product c.at-product.result, eights_fit (c.at-n.result - (loop.k - 1)) (c.at-product.result * loop.product) (omega (arith, loop.invariant.1)) more)
 
 pub loop-k-preserved : goal.loop-k-preserved
 loop-k-preserved c =
@@ -36,13 +30,14 @@ loop-k-preserved c =
     let loop = c.loop-k in
     let some = c.loop-k-test.true in
     let low : loop.k - 1 < get_or tables 0 0 = omega (arith, loop.invariant.0, loop.invariant.1, some) in
-    let size : c.at-size.result ≤ 8 = omega (arith, c.at-size.ensures, c.requires.most (loop.k - 1) low) in
+    let size : c.at-product.result ≤ 8 = omega (arith, c.at-product.ensures, c.requires.most (loop.k - 1) low) in
     let back : loop.k ≡ loop.k - 1 + 1 = omega arith in (
       omega (arith, loop.invariant.0),
       loop.invariant.1,
-      ap₂ (λ (s p : ℕ). s * p) c.at-size.ensures (loop.invariant.2 ∙ ap (λ (k : ℕ). times (drop k (sizes_in tables))) back)
+      mul_comm loop.product c.at-product.result
+          ∙ ap₂ (λ (s p : ℕ). s * p) c.at-product.ensures (loop.invariant.2 ∙ ap (λ (k : ℕ). times (drop k (sizes_in tables))) back)
           ∙ times-next tables c.requires (loop.k - 1) low,
-      power_more 8 c.at-n.result loop.k c.at-size.result loop.product some loop.invariant.0 size loop.invariant.3,
+      omega (arith, mul_comm loop.product c.at-product.result, power_more 8 c.at-n.result loop.k c.at-product.result loop.product some loop.invariant.0 size loop.invariant.3),
     )
 
 pub returns : goal.returns

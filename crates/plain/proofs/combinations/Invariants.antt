@@ -7,6 +7,3 @@ use Rattle.plain.proofs.combinations.Given as goal
 abbrev pub invariant-loop-k : goal.invariant-loop-k
 invariant-loop-k l =
     (l.k ≤ l.n) × (l.n ≡ get_or l.tables 0 0) × (l.product ≡ times (drop l.k (sizes_in l.tables))) × (l.product ≤ 8 ^ (l.n - l.k))
-
-abbrev pub decreases-loop-k : goal.decreases-loop-k
-decreases-loop-k l = l.k

@@ -16,14 +16,11 @@ loop-k-init c =
           ∙ ap (λ (n : ℕ). fold (step a.run.now a.weight) (below n) a.ws.now) c.at-n.ensures,
     )
 
-pub overflow_add-k : goal.overflow_add-k
-overflow_add-k c = omega (arith, c.loop-k.invariant.0, c.loop-k-test.true, c.requires.0)
-
 pub add_arrival-requires : goal.add_arrival-requires
 add_arrival-requires c =
     let loop = c.loop-k in
     let low : loop.k < 8 = omega (arith, c.loop-k-test.true, loop.invariant.0, c.requires.0) in
-    (low, omega (arith, c.at-after.ensures, c.requires.1 loop.k (omega (arith, c.loop-k-test.true, loop.invariant.0))))
+    (low, omega (arith, c.at.ensures, c.requires.1 loop.k (omega (arith, c.loop-k-test.true, loop.invariant.0))))
 
 pub loop-k-preserved : goal.loop-k-preserved
 loop-k-preserved c =
@@ -32,9 +29,9 @@ loop-k-preserved c =
     let n = c.at-n.result in
     let u = c.add_arrival.new.ws in (
       loop.invariant.0,
-      omega (arith, c.ws-1.given, loop.invariant.1),
+      omega (arith, loop.invariant.1),
       ap (fold (step a.run.now a.weight) (onward n (loop.k + 1)))
-          (c.add_arrival.ensures ∙ ap (λ (v : ℕ). arrived_in loop.k v a.weight loop.ws) c.at-after.ensures)
+          (c.add_arrival.ensures ∙ ap (λ (v : ℕ). arrived_in loop.k v a.weight loop.ws) c.at.ensures)
           ∙ sym (fold_next (step a.run.now a.weight) n loop.k loop.ws c.loop-k-test.true)
           ∙ loop.invariant.2,
     )

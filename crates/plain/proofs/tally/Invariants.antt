@@ -1,5 +1,5 @@
 -- `plain::tally` meets its contract: the trains still to come add to what the trains before them have left. Assumes nothing.
-use Rattle.std.proofs.Common.{◌≡◌, ℕ, ◌+◌, ◌-◌, List, length, get_or}
+use Rattle.std.proofs.Common.{◌≡◌, ℕ, ◌+◌, List, length, get_or}
 use Rattle.rules.specs.Lists.{fold}
 use Rattle.words.specs.Spans.{onward}
 use Rattle.plain.specs.Words.{arrived_in, tallied_in}
@@ -12,6 +12,3 @@ step run weight k u = arrived_in k (get_or run (16 + k) 0) weight u
 abbrev pub invariant-loop-k : goal.invariant-loop-k
 invariant-loop-k l =
     (l.n ≡ get_or l.tables 0 0) × (length l.ws ≡ length l.initial.ws) × (fold (step l.run l.weight) (onward l.n l.k) l.ws ≡ tallied_in l.tables l.run l.weight l.initial.ws)
-
-abbrev pub decreases-loop-k : goal.decreases-loop-k
-decreases-loop-k l = l.n - l.k

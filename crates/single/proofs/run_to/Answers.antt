@@ -10,7 +10,7 @@ use Rattle.single.proofs.run_to.Goals as goal
 pub turns-requires : goal.turns-requires
 turns-requires c =
     let p = c.requires in
-    (p.0, c.begin.ensures.going, omega (arith, p.1))
+    (c.begin.ensures.going, omega (arith, p.1))
 
 pub returns : goal.returns
 unfolding ran_in

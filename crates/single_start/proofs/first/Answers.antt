@@ -11,38 +11,31 @@ use Rattle.single_start.proofs.first.Goals as goal
 pub loop-i-init : goal.loop-i-init
 loop-i-init c =
     let a = c.args in
-    (omega arith, renewed_first a.tables.now a.run.now 0 (λ z. true) a.asks.now)
+    renewed_first a.plan.now.tables.words.now a.run.now 0 (λ z. true) a.asks.now
 
 pub ask-requires : goal.ask-requires
 ask-requires c =
-    let p = c.requires in
+    let plan = c.args.plan.now.planned in
     let i = c.loop-i.i in
-    let here : i < trains_in c.args.tables.now = omega (arith, c.at-n.ensures, c.loop-i-test.true) in
-    let fits = p.1 (order_in c.args.tables.now i) (p.0.known i here) in
-    (p.0.small, omega (arith, here, p.0.few), fits, omega arith)
-
-pub overflow_add-i : goal.overflow_add-i
-overflow_add-i c = omega arith
-
-pub loop-i-smaller : goal.loop-i-smaller
-loop-i-smaller c = omega arith
+    let here : i < trains_in c.args.plan.now.tables.words.now = omega (arith, c.at-n.ensures.0, c.loop-i-test.true) in
+    let fits = c.requires.0 (order_in c.args.plan.now.tables.words.now i) (plan.known i here) in
+    (omega (arith, here, plan.few), fits, omega arith)
 
 pub loop-i-preserved : goal.loop-i-preserved
 loop-i-preserved c =
     let loop = c.loop-i in
     let a = c.args in
-    let p = c.requires in
     let i = loop.i in
-    let low : i < length a.asks.now = omega (arith, c.at-n.ensures, c.loop-i-test.true, p.0.few, p.2) in
+    let low : i < length a.asks.now = omega (arith, c.at-n.ensures.0, c.loop-i-test.true, a.plan.now.planned.few, c.requires.1) in
     let written = c.put.ensures ∙ ap (set loop.asks i) c.ask.ensures in
-    let next = renewed_put a.tables.now a.run.now 0 (λ z. true) a.asks.now i loop.asks loop.invariant.1 low refl in
-    (omega arith, subst (RenewedTo a.tables.now a.run.now 0 (λ z. true) a.asks.now (i + 1)) (sym written) next)
+    let next = renewed_put a.plan.now.tables.words.now a.run.now 0 (λ z. true) a.asks.now i loop.asks loop.invariant low refl in
+    subst (RenewedTo a.plan.now.tables.words.now a.run.now 0 (λ z. true) a.asks.now (i + 1)) (sym written) next
 
 pub shape_of-asks : goal.shape_of-asks
-shape_of-asks c = c.loop-i.invariant.1.0
+shape_of-asks c = c.loop-i.invariant.0
 
 pub returns : goal.returns
 returns c =
     let a = c.args in
-    let all : c.loop-i.i ≡ trains_in a.tables.now = omega (arith, c.at-n.ensures, c.loop-i-test.false, c.loop-i.invariant.0) in
-    subst (λ (m : ℕ). RenewedTo a.tables.now a.run.now 0 (λ z. true) a.asks.now m c.loop-i.asks) all c.loop-i.invariant.1
+    let all : c.loop-i.i ≡ trains_in a.plan.now.tables.words.now = omega (arith, c.at-n.ensures.0, c.loop-i-test.false) in
+    subst (λ (m : ℕ). RenewedTo a.plan.now.tables.words.now a.run.now 0 (λ z. true) a.asks.now m c.loop-i.asks) all c.loop-i.invariant

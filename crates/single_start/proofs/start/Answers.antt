@@ -10,34 +10,27 @@ use Rattle.single_start.proofs.start.Goals as goal
 
 pub loop-k-init : goal.loop-k-init
 loop-k-init c =
-    let a = c.args in (omega arith, omega arith, fold-all (λ j u. waits_in a.tables.now j (get_or a.choice.now j 0) u) c.at-n.result a.run.now)
+    let a = c.args in (omega arith, fold-all (λ j u. waits_in a.tables.now.words.now j (get_or a.choice.now j 0) u) c.at-n.result a.run.now)
 
 pub wait-requires : goal.wait-requires
-wait-requires c = (c.requires, omega (arith, c.at-n.ensures, c.requires 0), c.index.ensures.1)
-
-pub overflow_add-k : goal.overflow_add-k
-overflow_add-k c = omega arith
-
-pub loop-k-smaller : goal.loop-k-smaller
-loop-k-smaller c = omega arith
+wait-requires c = (omega (arith, c.at-n.ensures.1, c.loop-k-test.true), c.index.ensures.1)
 
 pub loop-k-preserved : goal.loop-k-preserved
 loop-k-preserved c =
     let a = c.args in
     let k = c.loop-k.k in (
       omega arith,
-      omega (arith, c.run-1.given),
-      ap (fold (λ j u. waits_in a.tables.now j (get_or a.choice.now j 0) u) (onward c.at-n.result (k + 1)))
-          (c.wait.ensures ∙ ap (λ (d : ℕ). waits_in a.tables.now k d c.loop-k.run) c.index.ensures.0)
-          ∙ sym (fold_next (λ j u. waits_in a.tables.now j (get_or a.choice.now j 0) u) c.at-n.result k c.loop-k.run c.loop-k-test.true)
-          ∙ c.loop-k.invariant.2,
+      ap (fold (λ j u. waits_in a.tables.now.words.now j (get_or a.choice.now j 0) u) (onward c.at-n.result (k + 1)))
+          (c.wait.ensures ∙ ap (λ (d : ℕ). waits_in a.tables.now.words.now k d c.loop-k.run) c.index.ensures.0)
+          ∙ sym (fold_next (λ j u. waits_in a.tables.now.words.now j (get_or a.choice.now j 0) u) c.at-n.result k c.loop-k.run c.loop-k-test.true)
+          ∙ c.loop-k.invariant.1,
     )
 
 pub shape_of-run : goal.shape_of-run
-shape_of-run c = c.loop-k.invariant.1
+shape_of-run c = c.loop-k.invariant.0
 
 pub returns : goal.returns
 unfolding start_in
 returns c =
     let a = c.args in
-    simp (sym c.at-n.ensures) (sym (fold_end (λ j u. waits_in a.tables.now j (get_or a.choice.now j 0) u) c.at-n.result c.loop-k.k c.loop-k.run c.loop-k-test.false) ∙ c.loop-k.invariant.2)
+    simp (sym c.at-n.ensures.0) (sym (fold_end (λ j u. waits_in a.tables.now.words.now j (get_or a.choice.now j 0) u) c.at-n.result c.loop-k.k c.loop-k.run c.loop-k-test.false) ∙ c.loop-k.invariant.1)

@@ -1,6 +1,5 @@
 -- `single_start::start` meets its contract: the words so far and the trains still to come give what all give. Assumes nothing.
 use mathlib.Core.Path.{◌≡◌}
-use Prim.Native.Nat.{◌-◌, ◌≤◌}
 use lib.ListN.{length, get_or}
 use Rattle.rules.specs.Lists.{fold, below}
 use Rattle.words.specs.Spans.{onward}
@@ -9,9 +8,5 @@ use Rattle.single_start.proofs.start.Given as goal
 
 abbrev pub invariant-loop-k : goal.invariant-loop-k
 invariant-loop-k l =
-    (l.k ≤ l.n)
-    × (length l.run ≡ length l.initial.run)
-    × (fold (λ j u. waits_in l.tables j (get_or l.choice j 0) u) (onward l.n l.k) l.run ≡ fold (λ j u. waits_in l.tables j (get_or l.choice j 0) u) (below l.n) l.initial.run)
-
-abbrev pub decreases-loop-k : goal.decreases-loop-k
-decreases-loop-k l = l.n - l.k
+    (length l.run ≡ length l.initial.run)
+    × (fold (λ j u. waits_in l.tables.words.now j (get_or l.choice j 0) u) (onward l.n l.k) l.run ≡ fold (λ j u. waits_in l.tables.words.now j (get_or l.choice j 0) u) (below l.n) l.initial.run)

@@ -9,9 +9,10 @@ pub ask-requires : goal.ask-requires
 ask-requires c =
     let p = c.requires in
     let a = c.args in
-    let k = order_in a.tables.now (a.q % 8) in
-    let fits = p.1 k (p.0.known (a.q % 8) p.2) in
-    (p.0.small, omega arith, fits, omega (arith, p.3))
+    let plan = a.plan.now.planned in
+    let k = order_in a.plan.now.tables.words.now (a.q % 8) in
+    let fits = p.0 k (plan.known (a.q % 8) p.1) in
+    (omega arith, fits, omega (arith, p.2))
 
 pub returns : goal.returns
 returns c = simp (sym c.at-moves.ensures, sym c.put.ensures, sym c.ask.ensures) c.put-2.ensures
