@@ -1,7 +1,9 @@
 -- Who asks for an element and what a pass is for, on rows of two words and the words T that the runs look up. Assumes nothing: these are definitions.
-use Rattle.std.specs.Prelude.{◌≡◌, ℕ, ◌+◌, ◌*◌, ◌/◌, ◌%◌, ◌<◌, ◌≤◌, Bool, false, cond, not, ◌&&◌, List, [], ◌∷◌, length, take, drop, ◌==◌, ◌≢◌, bit_and, nat_lt, slice_index}
+use Rattle.std.specs.Prelude.{◌≡◌, ℕ, ◌+◌, ◌*◌, ◌/◌, ◌%◌, ◌<◌, ◌≤◌, Bool, true, false, cond, not, ◌&&◌, List, [], ◌∷◌, length, take, drop, ◌==◌, ◌≢◌, bit_and, nat_lt, slice_index, Option, MatchOption}
 use Rattle.cut.specs.Cut.{full_of, Met}
-use Rattle.rows.specs.Rows.{Row, met_of}
+use Rattle.std.proofs.Math.Seq.{slice}
+use Rattle.theory_lists.specs.Every.{Every}
+use Rattle.rows.specs.Rows.{Row, rows_of, row_at, met_of}
 use Rattle.asking.specs.declared.Job.{Job}
 
 -- ---- asking
@@ -105,6 +107,16 @@ pub record Before (T : List ℕ) (k e p : ℕ) : Type 0 where
   pub few : p ≤ 66
   pub first : (j : ℕ) → j < p → slice_index T (240 + (k * 128 + j)) ≢ e
   pub next : p < 66 → slice_index T (240 + (k * 128 + p)) ≡ e
+
+-- what is found among the rows from i up to n: the first to which yes is said, after rows to which no is said; or no is said to each
+abbrev pub Found : (Row → Bool → Type 0) → ℕ → ℕ → List ℕ → Option ℕ → Type 0
+Found says i n rows r =
+    MatchOption r (Every (λ x. says x false) (rows_of (slice (i * 2) (n * 2) rows)))
+    (λ j. (i ≤ j) × (j < n) × Every (λ x. says x false) (rows_of (slice (i * 2) (j * 2) rows)) × says (row_at rows j) true)
+
+-- the same, as what a search with a test of any kind finds
+pub record Finds (says : Row → Bool → Type 0) (i n : ℕ) (rows : List ℕ) (r : Option ℕ) : Type 0 where
+  pub found : Found says i n rows r
 
 -- the minute, element and train of a pass
 pub record Within (t e k : ℕ) : Type 0 where

@@ -173,6 +173,9 @@ unfolding swept_of
 swept_current t l =
     every_more (λ r. not (ended_of t r.state) ≡ true) (λ r. ended_of t r.state ≡ false) (λ r h. not-true (ended_of t r.state) h) (swept_of t l) (keep-passes (λ r. not (ended_of t r.state)) l)
 
+pub trains-low : (T : List ℕ) (t : ℕ) (N : List ℕ) (l : List Row) → Due T t N l → Every (λ r. r.state / 524288 < 8) l
+trains-low T t N l d = every_more (Settled T t (stir_in N) (asked_in N) l) (λ r. r.state / 524288 < 8) (λ r k. k.train) l d.calm
+
 module _ (T : List ℕ) (t : ℕ) (N : List ℕ) (l : List Row) (ways : Ways T) (d : Due T t N l) (current : Every (λ r. ended_of t r.state ≡ false) l) where
   -- where no row shows that it is due now, none is
   pub wake_none : Flagged N → get_or N (2176 + t) 0 ≡ 0 → Noted T t N l
@@ -231,11 +234,6 @@ module _ (T : List ℕ) (t w : ℕ) (rows N : List ℕ) (kept : Kept w rows) (F 
         flagged = h.flagged;
         due = clear_swept T t N M l ways d (subst (λ (x : List Row). Leaves T t x N M) e h);
       }
-
-  pub trains-low : Every (λ r. r.state / 524288 < 8) (rows_in (w / 2) rows)
-  trains-low =
-      let e : rows_in (w / 2) rows ≡ l = ap (λ (y : ℕ). rows_of (take y rows)) kept.even in
-      subst (Every (λ r. r.state / 524288 < 8)) (sym e) (every_more (Settled T t (stir_in N) (asked_in N) l) (λ r. r.state / 524288 < 8) (λ r k. k.train) l d.calm)
 
   pub wake_done : Every (λ r. ended_of t r.state ≡ false) (rows_of (take w rows)) → (M : List ℕ) → Marks T t (rows_in (w / 2) rows) N M → Noted T t M (rows_of (take w rows))
   wake_done current M h =

@@ -16,7 +16,7 @@ use lib.Dec.{ltb}
 use Rattle.rules.specs.Lists.{each}
 use Rattle.cut.specs.declared.Pieces.{Pieces}
 use Rattle.cut.specs.Cut.{Part, part, full_of, outside_of, outs, carried, passed, Room, fitting, Wrote}
-use Rattle.cut.specs.Outside.{power, outs-nothing}
+use Rattle.cut.specs.Outside.{power}
 use Rattle.cut.specs.Written.{wrote_none, fitting-none, fitting-one, fitting_join, room_after}
 
 -- ---- what is passed over
@@ -164,7 +164,7 @@ module _ (k c d : ℕ) (few : k < 8) where
   next : 8 - k ≡ suc (8 - (k + 1))
   next = omega arith
 
-  outs-same : d % 256 ≡ 0 → outs (8 - k) k c d ≡ outs (8 - (k + 1)) (k + 1) c (d / 256)
+  pub outs-same : d % 256 ≡ 0 → outs (8 - k) k c d ≡ outs (8 - (k + 1)) (k + 1) c (d / 256)
   unfolding outs
   outs-same e = rw next (simp (e, add-one))
 
@@ -172,48 +172,41 @@ module _ (k c d : ℕ) (few : k < 8) where
   unfolding outs
   outs-other e = rw next (simp (ne_eqb (d % 256) 0 e, add-one))
 
--- the trains before k are done: what the pieces of those from k on add to what is written is what is to be written
-pub record Cutting (room : ℕ) (w : Pieces) (h e : List ℕ) (f : ℕ → List Part) (p c : ℕ) (h₁ e₁ : List ℕ) (lost k : ℕ) (z : Pieces) : Type 0 where
-  pub few : k ≤ 8
-  pub within : c + lost * 256 ^ k ≤ p
+  -- the piece of this train comes first
+  pub first-is : {q : ℕ} → (d % 256 ≡ 0 → ⊥) → q ≡ outside_of k c d → outs (8 - k) k c d ≡ q ∷ outs (8 - (k + 1)) (k + 1) c (d / 256)
+  first-is e o = rw o (outs-other e)
+
+-- what an `Outsides` has still to give fits in 64 bits, so trains are left where something is lost, and what is left after one train fits too
+module _ (c lost k : ℕ) (within : c + lost * 256 ^ k < 2 ^ 64) (some : lost ≡ 0 → ⊥) where
+  pub trains-left : k < 8
+  trains-left = go (dec_le 8 k)
+    where
+      go : Dec (8 ≤ k) → k < 8
+      go (no n) = omega arith
+      go (yes l) =
+          absurd (omega (arith, within, pow-le-pow_right {n = 256} (omega arith) {i = 8} {j = k} l, mul-le-mul_right {m = 1} {n = lost} (256 ^ k) (omega arith)))
+
+  pub next-within : c + lost / 256 * 256 ^ (k + 1) < 2 ^ 64
+  next-within =
+      let e : lost / 256 * 256 ^ (k + 1) ≡ lost / 256 * 256 * 256 ^ k = ap (λ (m : ℕ). lost / 256 * m) (ap (λ (m : ℕ). 256 ^ m) (add-one k) ∙ pow-succ' 256 k) ∙ sym (mul_assoc (lost / 256) 256 (256 ^ k)) in
+      omega (arith, within, mul-le-mul_right {m = lost / 256 * 256} {n = lost} (256 ^ k) (omega arith))
+
+-- of the pieces L that are to be carried, those of l are left: what they add to what is written is what is to be written
+pub record Cutting (room : ℕ) (w : Pieces) (h e : List ℕ) (f : ℕ → List Part) (L : List ℕ) (h₁ e₁ : List ℕ) (l : List ℕ) (z : Pieces) : Type 0 where
   pub space : Room room z h₁ e₁
-  pub after : (r : Pieces) (h₂ e₂ : List ℕ) → Wrote z h₁ e₁ (fitting room z (each f (outs (8 - k) k c lost))) r h₂ e₂ → Wrote w h e (fitting room w (each f (outs 8 0 c (p - c)))) r h₂ e₂
+  pub after : (r : Pieces) (h₂ e₂ : List ℕ) → Wrote z h₁ e₁ (fitting room z (each f l)) r h₂ e₂ → Wrote w h e (fitting room w (each f L)) r h₂ e₂
 
-module _ {room : ℕ} {w : Pieces} {h e : List ℕ} {f : ℕ → List Part} {p c : ℕ} where
-  pub cutting_start : Room room w h e → c ≤ p → Cutting room w h e f p c h e (p - c) 0 w
-  cutting_start s l = record { few = omega arith; within = omega arith; space = s; after = λ r h₂ e₂ g. g }
+module _ {room : ℕ} {w : Pieces} {h e : List ℕ} {f : ℕ → List Part} {L : List ℕ} where
+  pub cutting_start : {l : List ℕ} → Room room w h e → l ≡ L → Cutting room w h e f L h e l w
+  cutting_start s g = rw g (record { space = s; after = λ r h₂ e₂ t. t })
 
-  module _ {h₁ e₁ : List ℕ} {lost k : ℕ} {z : Pieces} (s : Cutting room w h e f p c h₁ e₁ lost k z) where
-    pub cutting_end : lost ≡ 0 → Wrote w h e (fitting room w (each f (outs 8 0 c (p - c)))) z h₁ e₁
-    cutting_end l = s.after z h₁ e₁ (rw (l, outs-nothing (8 - k) k c, take-nil {A = Part} (room - (z.held + z.entering))) (wrote_none z h₁ e₁))
+  module _ {h₁ e₁ l : List ℕ} {z : Pieces} (s : Cutting room w h e f L h₁ e₁ l z) where
+    pub cutting_end : l ≡ [] → Wrote w h e (fitting room w (each f L)) z h₁ e₁
+    cutting_end g = s.after z h₁ e₁ (rw (g, take-nil {A = Part} (room - (z.held + z.entering))) (wrote_none z h₁ e₁))
 
-    module _ (some : lost ≡ 0 → ⊥) (small : p < 2 ^ 64) where
-      pub cutting_few : k < 8
-      cutting_few = go (dec_le 8 k)
-        where
-          go : Dec (8 ≤ k) → k < 8
-          go (no n) = omega arith
-          go (yes l) =
-              absurd (omega (arith, s.within, pow-le-pow_right {n = 256} (omega arith) {i = 8} {j = k} l, mul-le-mul_right {m = 1} {n = lost} (256 ^ k) (omega arith)))
-
-      next-within : c + lost / 256 * 256 ^ (k + 1) ≤ p
-      next-within =
-          let e : lost / 256 * 256 ^ (k + 1) ≡ lost / 256 * 256 * 256 ^ k = ap (λ (m : ℕ). lost / 256 * m) (ap (λ (m : ℕ). 256 ^ m) (add-one k) ∙ pow-succ' 256 k) ∙ sym (mul_assoc (lost / 256) 256 (256 ^ k)) in
-          omega (arith, s.within, mul-le-mul_right {m = lost / 256 * 256} {n = lost} (256 ^ k) (omega arith))
-
-      pub cutting_same : lost % 256 ≡ 0 → Cutting room w h e f p c h₁ e₁ (lost / 256) (k + 1) z
-      cutting_same l = record {
-        few = omega (arith, cutting_few);
-        within = next-within;
-        space = s.space;
-        after = λ r h₂ e₂ g. s.after r h₂ e₂ (rw (outs-same k c lost cutting_few l) g);
-      }
-
-      pub cutting_other : {z₂ : Pieces} {h₂ e₂ : List ℕ} (q : ℕ) → (lost % 256 ≡ 0 → ⊥) → q ≡ outside_of k c lost
-          → Wrote z h₁ e₁ (fitting room z (f q)) z₂ h₂ e₂ → Cutting room w h e f p c h₂ e₂ (lost / 256) (k + 1) z₂
-      cutting_other q l o g = record {
-        few = omega (arith, cutting_few);
-        within = next-within;
-        space = room_after (f q) s.space g;
-        after = λ r h₃ e₃ t. s.after r h₃ e₃ (rw (outs-other k c lost cutting_few l, ← o) (fitting_join room (f q) (each f (outs (8 - (k + 1)) (k + 1) c (lost / 256))) g t));
-      }
+    pub cutting_next : {z₂ : Pieces} {h₂ e₂ rest : List ℕ} (q : ℕ) → l ≡ q ∷ rest
+        → Wrote z h₁ e₁ (fitting room z (f q)) z₂ h₂ e₂ → Cutting room w h e f L h₂ e₂ rest z₂
+    cutting_next q o g = record {
+      space = room_after (f q) s.space g;
+      after = λ r h₃ e₃ t. s.after r h₃ e₃ (rw o (fitting_join room (f q) (each f _) g t));
+    }

@@ -1,5 +1,5 @@
 -- The cutting rule on packed covers: a cover is one number, train k's set in byte k, delay d as bit d. Assumes nothing: these are definitions.
-use Rattle.std.specs.Prelude.{◌≡◌, Bool, true, false, not, cond, List, [], ◌∷◌, ◌++◌, map, ℕ, zero, suc, ◌+◌, ◌-◌, ◌*◌, ◌/◌, ◌%◌, ◌^◌, ◌≤◌, length, take, leb, ltb, eqb}
+use Rattle.std.specs.Prelude.{◌≡◌, Bool, true, false, not, cond, List, [], ◌∷◌, ◌++◌, map, ℕ, zero, suc, ◌+◌, ◌-◌, ◌*◌, ◌/◌, ◌%◌, ◌^◌, ◌≤◌, ◌<◌, length, take, drop, leb, ltb, eqb, Option, MatchOption}
 use Rattle.std.proofs.lemmas.List.Edits.{sets}
 use Rattle.std.specs.Int.Bits.{bit_and}
 use Rattle.rules.specs.Lists.{one, each, keep}
@@ -67,6 +67,12 @@ onward false false k = suc k
 unfoldable pub passed : ℕ → ℕ → List ℕ → ℕ
 passed need p [] = 0
 passed need p (m ∷ ms) = onward (ltb (suc (length ms)) need) (full_of 8 (bit_and p m)) (passed need p ms)
+
+-- the next cover that the piece p meets from the place `at` on is at i, where at least `need` were still to meet; or fewer are, behind those that it passes over
+abbrev pub MeetsNext : ℕ → ℕ → ℕ → List ℕ → Option ℕ → Type 0
+MeetsNext need p at met r =
+    MatchOption r ((length met - (at + passed need p (drop at met)) < need) × (at + passed need p (drop at met) ≤ length met))
+    (λ i. (i ≡ at + passed need p (drop at met)) × (need ≤ length met - i))
 
 -- ---- what is written
 

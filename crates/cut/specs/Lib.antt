@@ -1,4 +1,5 @@
 pub mod Cut
+pub mod Ahead
 pub mod Packed
 pub mod Written
 pub mod Sets

@@ -16,7 +16,7 @@ use Rattle.theory_lists.specs.Every.{Every, every_each, every_map}
 use Rattle.theory_lists.specs.Below.{every_below}
 use Rattle.cut.specs.Cut.{full_of}
 use Rattle.theory_lists.specs.Writes.{Put, put_start, put_length, put_fits, zeros-at}
-use Rattle.rows.specs.Rows.{Row, rows_of, rows_in, words}
+use Rattle.rows.specs.Rows.{Row, rows_of, words}
 use Rattle.rows.specs.Written.{words-length, rows_of-words}
 use Rattle.weigh.specs.Weigh.{Small}
 use Rattle.waiting.specs.Notes.{Flagged}
@@ -84,12 +84,11 @@ module _ (T : List ℕ) (small : Small T) (ways : Ways T) where
       (λ k h. every_map (λ d. d < get_or T (40 + k) 0) Proper (first_row T k) (λ d l. row-proper k d (omega (arith, small.trains)) (omega (arith, small.delays k (omega (arith, small.trains))))) (below (get_or T (40 + k) 0)) (every_below (get_or T (40 + k) 0)))
       (below (get_or T 0 0)) (every_below (get_or T 0 0))
 
-  pub begin-due : {rows : List ℕ} {r : ℕ} (rows' N : List ℕ) → Put rows 0 (words (first_rows T)) r rows' → Kept r rows' → Enrols (rows_in (r / 2) rows') N
+  pub begin-due : {rows : List ℕ} {r : ℕ} (rows' N : List ℕ) → Put rows 0 (words (first_rows T)) r rows' → Kept r rows' → Enrols (rows_of (take r rows')) N
       → r < length rows' → Due T 0 N (rows_of (take r rows'))
   begin-due {rows} {r} rows' N f kept h less =
       let same : rows_of (take r rows') ≡ first_rows T = ap rows_of (put_start f (omega (arith, f.place, put_length f))) ∙ rows_of-words (first_rows T) in
-      let e : rows_in (r / 2) rows' ≡ rows_of (take r rows') = ap (λ (y : ℕ). rows_of (take y rows')) kept.even in
-      first-due T N (rows_of (take r rows')) (subst (Every Proper) (sym same) first-proper) (subst (λ (l : List Row). Enrols l N) e h)
+      first-due T N (rows_of (take r rows')) (subst (Every Proper) (sym same) first-proper) h
 
 -- notes of which none is set
 pub cleared-flagged : (N : List ℕ) → length N ≡ 6272 → N ≡ replicate {A = ℕ} 6272 0 → Flagged N

@@ -16,22 +16,21 @@ fn first_byte(tables: &[u64], k: u64, d: u64, j: u64) -> u64
     if j == k {
         return 1 << d;
     }
-    if j < words::at(tables, 0) {
-        let n = words::at(tables, 40 + j);
+    if j < words::at(tables, words::TRAINS) {
+        let n = words::at(tables, words::SIZES + j);
         return (1 << n) - 1;
     }
     1
 }
 
 // The first cover of train k with delay d.
+// A byte after the other: `first_bytes` is told so, and `from_le_bytes` would only turn the bytes into that sum again.
 fn first_cover(tables: &[u64], k: u64, d: u64) -> u64
     requires { Small tables.now × (d < 8) }
     ensures { result ≡ first_bytes tables.now k d 8 0 }
 {
-    let mut j = 8;
     let mut c = 0;
-    while 0 < j {
-        j -= 1;
+    for j in (0..8).rev() {
         let b = first_byte(tables, k, d, j);
         c = c * 256 + b;
     }
@@ -43,15 +42,13 @@ fn first_train(tables: &[u64], k: u64, rows: &mut [u64], w: usize) -> usize
     requires { Small tables.now × (k < 8) × (w ≤ length rows.old) }
     ensures { Put rows.old w (words (map (first_row tables.now k) (below (get_or tables.now (40 + k) 0)))) result rows.new }
 {
-    let n = words::at(tables, 40 + k);
-    let arrival = words::at(tables, 32 + k);
-    let mut d = 0;
+    let n = words::at(tables, words::SIZES + k);
+    let arrival = words::at(tables, words::FIRST_ARRIVALS + k);
     let mut at = w;
-    while d < n {
-        let delay = words::at(tables, 48 + (k * 8 + d));
+    for d in 0..n {
+        let delay = words::at(tables, words::DELAYS + (k * 8 + d));
         let c = first_cover(tables, k, d);
         at = rows::append(rows, at, k * 524288 + 266240 + (arrival + delay), c);
-        d += 1;
     }
     at
 }
@@ -61,12 +58,10 @@ pub fn begin(tables: &[u64], rows: &mut [u64]) -> usize
     requires { Small tables.now }
     ensures { Put rows.old 0 (words (first_rows tables.now)) result rows.new }
 {
-    let n = words::at(tables, 0);
-    let mut k = 0;
+    let n = words::at(tables, words::TRAINS);
     let mut at = 0;
-    while k < n {
+    for k in 0..n {
         at = first_train(tables, k, rows, at);
-        k += 1;
     }
     at
 }

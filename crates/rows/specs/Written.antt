@@ -47,6 +47,18 @@ rows_in-words n l h = words-rows_of n (take (n * 2) l) (length-take-le (n * 2) l
 pub rows_in-length : (n : ℕ) (l : List ℕ) → n * 2 ≤ length l → length (rows_in n l) ≡ n
 rows_in-length n l h = omega (arith, words-length (rows_in n l), ap length (rows_in-words n l h), length-take-le (n * 2) l h)
 
+-- as many rows as there are, whether or not a single word stands behind them
+pub rows_in-all : (n : ℕ) (l : List ℕ) → n * 2 ≤ length l → length l ≤ n * 2 + 1 → rows_in n l ≡ rows_of l
+unfolding rows_of
+rows_in-all zero [] h k = refl
+rows_in-all zero (s ∷ []) h k = refl
+rows_in-all zero (s ∷ (c ∷ l)) h k = absurd (omega arith)
+rows_in-all (suc n) [] h k = absurd (omega arith)
+rows_in-all (suc n) (s ∷ []) h k = absurd (omega arith)
+rows_in-all (suc n) (s ∷ (c ∷ l)) h k =
+    let more : suc n * 2 ≡ suc (suc (n * 2)) = omega arith in
+    ap (λ (m : ℕ). rows_of (take m (s ∷ c ∷ l))) more ∙ ap (λ (z : List Row). row s c ∷ z) (rows_in-all n l (omega arith) (omega arith))
+
 take-two : (i : ℕ) (l : List ℕ) → i * 2 + 2 ≤ length l → take ((i + 1) * 2) l ≡ take (i * 2) l ++ (get_or l (i * 2) 0 ∷ get_or l (i * 2 + 1) 0 ∷ [])
 take-two i l long =
     let n : (i + 1) * 2 ≡ suc (i * 2 + 1) = omega arith in

@@ -10,6 +10,7 @@ use Rattle.quiet.specs.Parts.{Sub}
 use Rattle.asking.specs.declared.Job.{Job}
 use Rattle.asking.specs.Ask.{met_for, asking_of, stirred_of}
 use Rattle.serving.specs.declared.Ends.{Ends}
+use Rattle.serving.specs.declared.Bench.{Bench}
 
 -- ---- the pass
 
@@ -110,3 +111,21 @@ pub record Lent (T rows tmp met held entering : List ℕ) : Type 0 where
   pub met_long : length rows ≤ length met
   pub held_long : length rows ≤ length held * 2
   pub entering_long : length rows ≤ length entering * 2
+
+-- the same of what lies on the bench
+abbrev pub Roomy : List ℕ → Bench → Type 0
+Roomy rows b = Space rows b.rows.now b.met.now b.held.now b.entering.now
+
+abbrev pub Lends : List ℕ → List ℕ → Bench → Type 0
+Lends T rows b = Lent T rows b.rows.now b.met.now b.held.now b.entering.now
+
+-- the bench still lends the same memory
+pub record Keeps (was now : Bench) : Type 0 where
+  pub rows : now.rows.ghost_name ≡ was.rows.ghost_name
+  pub met : now.met.ghost_name ≡ was.met.ghost_name
+  pub held : now.held.ghost_name ≡ was.held.ghost_name
+  pub entering : now.entering.ghost_name ≡ was.entering.ghost_name
+  pub rows_long : length now.rows.now ≡ length was.rows.now
+  pub met_long : length now.met.now ≡ length was.met.now
+  pub held_long : length now.held.now ≡ length was.held.now
+  pub entering_long : length now.entering.now ≡ length was.entering.now

@@ -13,7 +13,8 @@ use Rattle.rows.specs.Rows.{Row, words, rows_of, rows_in, row_at, held_rows, ent
 use Rattle.rows.specs.Written.{words_append, words-rows_of, rows_in-more, each_more, rows_split}
 use Rattle.asking.specs.declared.Job.{Job}
 use Rattle.asking.specs.Ask.{met_for}
-use Rattle.serving.specs.Pass.{hold_by, enter_by, covers_by, pass_by, Went, Two, Space, Lent}
+use Rattle.serving.specs.Pass.{hold_by, enter_by, covers_by, pass_by, Went, Two, Space, Lent, Lends, Keeps}
+use Rattle.serving.specs.declared.Bench.{Bench}
 use Rattle.serving.specs.Pass.Went.{as_it_is, moves}
 use Rattle.serving.specs.Outputs.{two_bounds, two-row, two_join}
 
@@ -27,6 +28,42 @@ lent-space l = record {
   met_long = l.met_long;
   held_long = l.held_long;
   entering_long = l.entering_long;
+}
+
+-- ---- a bench that still lends the same memory
+
+pub keeps_none : (b : Bench) → Keeps b b
+keeps_none b = record {
+  rows = refl;
+  met = refl;
+  held = refl;
+  entering = refl;
+  rows_long = refl;
+  met_long = refl;
+  held_long = refl;
+  entering_long = refl;
+}
+
+pub keeps_join : {a b c : Bench} → Keeps a b → Keeps b c → Keeps a c
+keeps_join f g = record {
+  rows = g.rows ∙ f.rows;
+  met = g.met ∙ f.met;
+  held = g.held ∙ f.held;
+  entering = g.entering ∙ f.entering;
+  rows_long = g.rows_long ∙ f.rows_long;
+  met_long = g.met_long ∙ f.met_long;
+  held_long = g.held_long ∙ f.held_long;
+  entering_long = g.entering_long ∙ f.entering_long;
+}
+
+-- it is as long as it was
+pub lends_keeps : {T rows rows' : List ℕ} {a b : Bench} → Lends T rows a → Keeps a b → length rows' ≡ length rows → Lends T rows' b
+lends_keeps l k e = record {
+  rows_are = e ∙ l.rows_are;
+  tmp_long = omega (arith, l.tmp_long, k.rows_long);
+  met_long = omega (arith, l.met_long, k.met_long);
+  held_long = omega (arith, l.held_long, k.held_long);
+  entering_long = omega (arith, l.entering_long, k.entering_long);
 }
 
 -- ---- all that moved

@@ -8,7 +8,10 @@ ghost use Rattle.rows.specs.Rows.{row, words, held_rows};
 ghost use Rattle.quiet.specs.Parts.{Sub};
 ghost use Rattle.serving.specs.Pass.{met_in, moved_of, Went, Two};
 
+use cut::{Meets, Pieces};
+
 // The place after the last word of the rows, how many covers have entered, and all that moved: the covers of the rows that were cut or entered.
+// Where the rows leave no place, it is their length: `Put`, by which each write is promised, ends there, and `Passed` tells of that place.
 #[derive(Clone, Copy)]
 pub struct Ends {
     pub place: usize,
@@ -16,81 +19,78 @@ pub struct Ends {
     pub moved: u64,
 }
 
-// All that moved, where m moved before: with the cover c, unless its only piece is held and is c itself.
-fn moved_with(held: &[u64], h: usize, entered: usize, c: u64, m: u64) -> u64
-    requires { h ≤ length held.now }
-    ensures { result ≡ moved_of h (get_or held.now 0 0) entered c m }
-{
-    if h != 1 {
-        return m | c;
-    }
-    if entered != 0 {
-        return m | c;
-    }
-    if held[0] != c {
-        return m | c;
-    }
-    m
+// What a pass works with, in lent memory: the rows as they were, the covers that are met, and the pieces that are held and that enter.
+#[derive(Drop)]
+pub struct Bench<'a> {
+    pub rows: &'a mut [u64],
+    pub met: &'a mut [u64],
+    pub held: &'a mut [u64],
+    pub entering: &'a mut [u64],
 }
 
-// The pieces of a row that asks with the cover c; of what it meets the `first` covers are the partner's. Mostly there are none, and then there is nothing to
-// cross.
+// All that moved, where m moved before: with the cover c, unless its only piece is held and is c itself.
+#[tactic(auto, unfolding(crate::specs::Pass::moved_of))]
+fn moved_with(held: &[u64], entered: usize, c: u64, m: u64) -> u64
+    ensures { result ≡ moved_of (length held.now) (get_or held.now 0 0) entered c m }
+{
+    if held.len() == 1 && entered == 0 && held[0] == c {
+        return m;
+    }
+    m | c
+}
+
+// The pieces of a row that asks with the cover c. Mostly it meets none of a partner's, and then there is nothing to cross.
 fn pieces(
-    met: &[u64],
-    first: usize,
+    meets: &Meets<'_>,
     held: &mut [u64],
     entering: &mut [u64],
     room: usize,
-    cap: usize,
     c: u64,
-    w: cut::Pieces,
-) -> cut::Pieces
-    requires { Room room w held.old entering.old × (first ≤ length met.now) }
-    ensures { Wrote w held.old entering.old (fitting room w (cut_by (met_in cap first met.now) c)) result held.new entering.new }
+    w: Pieces,
+) -> Pieces
+    requires { Room room w held.old entering.old × (meets.now.first ≤ length meets.now.met.now) }
+    ensures { Wrote w held.old entering.old (fitting room w (cut_by (met_in meets.now.cap meets.now.first meets.now.met.now) c)) result held.new entering.new }
 {
-    if first == 0 {
-        return cut::carry(met, held, entering, room, cap, 0, 0, c, w);
+    if meets.first == 0 {
+        return cut::carry(meets, held, entering, room, 0, 0, c, w);
     }
-    crossing::across(met, held, entering, room, cap, first, 0, c, w)
+    crossing::across(meets, held, entering, room, 0, c, w)
 }
 
-// A row that asks; of what it meets the `first` covers are the partner's. Its held pieces are written as rows of its state, and those that enter are put to
-// the others.
+// A row of the state s that asks with the cover c. Its held pieces are written as rows of its state, and those that enter are put to the others.
+// The three that are written stay apart: a struct that lends them would say in each clause that it lends the same.
 pub fn serve(
-    met: &[u64],
-    first: usize,
+    meets: &Meets<'_>,
     held: &mut [u64],
     entering: &mut [u64],
     rows: &mut [u64],
-    d: usize,
-    a: usize,
-    m: u64,
+    so_far: Ends,
     s: u64,
     c: u64,
-    q: asking::Job,
 ) -> Ends
-    requires { (2 ≤ length rows.old) × (length rows.old / 2 * 2 ≡ length rows.old) × (length rows.old ≤ length held.old * 2) × (length rows.old ≤ length entering.old * 2) × (d ≤ length rows.old) × (a * 2 ≤ length rows.old) × (first ≤ length met.now) }
-    ensures two { Two rows.old d (words (held_rows s (held_of (cut_by (met_in q.cap first met.now) c)))) result.place rows.new entering.old a (entering_of (cut_by (met_in q.cap first met.now) c)) result.entering entering.new }
-    ensures sub { Sub m result.moved × Went (held_rows s (held_of (cut_by (met_in q.cap first met.now) c))) (entering_of (cut_by (met_in q.cap first met.now) c)) result.moved (row s c) }
+    requires { (2 ≤ length rows.old) × (length rows.old / 2 * 2 ≡ length rows.old) × (length rows.old ≤ length held.old * 2) × (length rows.old ≤ length entering.old * 2) × (so_far.place ≤ length rows.old) × (so_far.entering * 2 ≤ length rows.old) × (meets.now.first ≤ length meets.now.met.now) }
+    ensures two { Two rows.old so_far.place (words (held_rows s (held_of (cut_by (met_in meets.now.cap meets.now.first meets.now.met.now) c)))) result.place rows.new entering.old so_far.entering (entering_of (cut_by (met_in meets.now.cap meets.now.first meets.now.met.now) c)) result.entering entering.new }
+    ensures sub { Sub so_far.moved result.moved × Went (held_rows s (held_of (cut_by (met_in meets.now.cap meets.now.first meets.now.met.now) c))) (entering_of (cut_by (met_in meets.now.cap meets.now.first meets.now.met.now) c)) result.moved (row s c) }
 {
     let room = rows.len() / 2;
-    let w = cut::Pieces {
+    let w = Pieces {
         held: 0,
-        entering: a,
+        entering: so_far.entering,
     };
-    let z = pieces(met, first, held, entering, room, q.cap, c, w);
+    let z = pieces(meets, held, entering, room, c, w);
     if z.held + z.entering == room {
         return Ends {
             place: rows.len(),
             entering: z.entering,
-            moved: m | c,
+            moved: so_far.moved | c,
         };
     }
-    let next = rows::hold(held, z.held, s, rows, d);
-    let moved = moved_with(held, z.held, z.entering - a, c, m);
+    let held = &held[..z.held];
+    let place = rows::hold(held, s, rows, so_far.place);
+    let moved = moved_with(held, z.entering - so_far.entering, c, so_far.moved);
     Ends {
-        place: next,
+        place,
         entering: z.entering,
-        moved: moved,
+        moved,
     }
 }

@@ -321,14 +321,6 @@ fresh_law N i c small F =
 
 -- ---- in code
 
-pub told-length : (N : List ℕ) (i c : ℕ) → length (told_of N i c) ≡ length N
-unfolding told_of
-told-length N i c = go (eqb (get_or N (1152 + i) 0) 0)
-  where
-    go : (b : Bool) → length (cond b N (set (set N i (bit_or (get_or N i 0) c)) (1024 + i % 128) 1)) ≡ length N
-    go true = refl
-    go false = length-set (set N i (bit_or (get_or N i 0) c)) (1024 + i % 128) 1 ∙ length-set N i (bit_or (get_or N i 0) c)
-
 pub told_all-more : (k : ℕ) (N : List ℕ) (e c : ℕ) → told_of (told_all k N e c) (k * 128 + e) c ≡ told_all (k + 1) N e c
 unfolding told_all
 told_all-more k N e c = let z : suc k ≡ k + 1 = omega arith in ap (λ (y : ℕ). told_all y N e c) z

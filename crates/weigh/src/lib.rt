@@ -1,7 +1,7 @@
 // The weights of packed covers, and raising the weights that have arrived.
 #![tactic(auto)]
 
-ghost use Rattle.std.specs.Prelude.{◌≡◌, ◌+◌, ◌*◌, ◌%◌, ◌^◌, ◌<◌, ◌≤◌, length, take, slice_index, slice_set};
+ghost use Rattle.std.specs.Prelude.{◌≡◌, ◌+◌, ◌*◌, ◌%◌, ◌^◌, ◌<◌, ◌≤◌, slice_index, slice_set};
 ghost use Rattle.weigh.specs.Weigh.{set_weight, weight_of, brought_of, Small};
 
 // The weight of the delays of train j whose bits x has.
@@ -9,49 +9,44 @@ fn set_weight(tables: &[u64], j: u64, x: u64) -> u64
     requires { Small tables.now × (j < 8) }
     ensures { result ≡ set_weight tables.now (112 + j * 8) 8 x }
 {
-    let mut i = 112 + j * 8;
-    let end = i + 8;
+    let first = words::WEIGHTS + j * 8;
     let mut left = x;
     let mut sum = 0;
-    while i < end {
+    for i in first..first + 8 {
         if left % 2 == 1 {
             sum += words::at(tables, i);
         }
-        left = left / 2;
-        i += 1;
+        left /= 2;
     }
     sum
 }
 
 // The weight of a packed cover: the product of its sets' weights, train by train.
+// A byte after the other: `weight_of` is told by division, and the bytes of `to_le_bytes` would first have to be shown to be those.
 fn cover_weight(tables: &[u64], c: u64) -> u64
     requires { Small tables.now }
     ensures { result ≡ weight_of tables.now c }
 {
-    let n = words::at(tables, 0);
-    let mut j = 0;
+    let n = words::at(tables, words::TRAINS);
     let mut left = c;
     let mut product = 1;
-    while j < n {
+    for j in 0..n {
         let w = set_weight(tables, j, left % 256);
-        product = product * w;
-        left = left / 256;
-        j += 1;
+        product *= w;
+        left /= 256;
     }
     product
 }
 
-// The weights of the first n covers together.
-pub fn brought(tables: &[u64], covers: &[u64], n: usize) -> u64
-    requires { Small tables.now × (n ≤ length covers.now) }
-    ensures { result ≡ brought_of tables.now (take n covers.now) }
+// The weights of the covers together.
+pub fn brought(tables: &[u64], covers: &[u64]) -> u64
+    requires { Small tables.now }
+    ensures { result ≡ brought_of tables.now covers.now }
 {
-    let mut i = 0;
-    let mut sum = 0;
-    while i < n {
-        let w = cover_weight(tables, covers[i]);
-        sum = std::num::wrapping_add_u64(sum, w);
-        i += 1;
+    let mut sum = 0u64;
+    for &c in covers {
+        let w = cover_weight(tables, c);
+        sum = sum.wrapping_add(w);
     }
     sum
 }
@@ -63,6 +58,6 @@ pub fn raise(weights: &mut [u64], i: u64, x: u64)
     let j = i as usize;
     if j < weights.len() {
         let was = weights[j];
-        weights[j] = std::num::wrapping_add_u64(was, x);
+        weights[j] = was.wrapping_add(x);
     }
 }

@@ -6,14 +6,14 @@ use Rattle.asking.proofs.assign.Goals as goal
 pub capacity-cap-requires : goal.capacity-cap-requires
 capacity-cap-requires c = omega (arith, c.requires.0.place)
 
-pub overflow_mul-k : goal.overflow_mul-k
-overflow_mul-k c = omega (arith, c.requires.0.train)
+pub overflow_mul-train : goal.overflow_mul-train
+overflow_mul-train c = omega (arith, c.requires.0.train)
 
-pub overflow_add-k : goal.overflow_add-k
-overflow_add-k c = omega (arith, c.requires.0.train, c.requires.0.place)
+pub overflow_add-train : goal.overflow_add-train
+overflow_add-train c = omega (arith, c.requires.0.train, c.requires.0.place)
 
-pub overflow_add-k-2 : goal.overflow_add-k-2
-overflow_add-k-2 c = omega (arith, c.requires.0.train, c.requires.0.place)
+pub overflow_add-train-2 : goal.overflow_add-train-2
+overflow_add-train-2 c = omega (arith, c.requires.0.train, c.requires.0.place)
 
 pub overflow_mul-result : goal.overflow_mul-result
 overflow_mul-result c = omega (arith, c.requires.0.train, c.requires.0.place)
@@ -25,11 +25,11 @@ pub overflow_add-result : goal.overflow_add-result
 overflow_add-result c = omega (arith, c.requires.0.train, c.requires.0.place)
 
 pub overflow_add-result-2 : goal.overflow_add-result-2
-overflow_add-result-2 c = omega (arith, c.requires.0.minute, c.at-stay.ensures, c.requires.1.words (1264 + (c.args.k * 128 + c.args.e)))
+overflow_add-result-2 c = omega (arith, c.requires.0.minute, c.at-stay.ensures, c.requires.1.words (1264 + (c.args.turn.train * 128 + c.args.turn.place)))
 
 pub overflow_add-result-3 : goal.overflow_add-result-3
 overflow_add-result-3 c =
-    omega (arith, c.requires.0.train, c.requires.0.place, c.requires.0.minute, c.at-stay.ensures, c.requires.1.words (1264 + (c.args.k * 128 + c.args.e)))
+    omega (arith, c.requires.0.train, c.requires.0.place, c.requires.0.minute, c.at-stay.ensures, c.requires.1.words (1264 + (c.args.turn.train * 128 + c.args.turn.place)))
 
 pub overflow_mul-result-3 : goal.overflow_mul-result-3
 overflow_mul-result-3 c = omega (arith, c.requires.0.train)

@@ -3,10 +3,10 @@ use Rattle.std.proofs.Common.{le-ltb, lt-ltb}
 use Rattle.asking.specs.Ask.{cap_of}
 use Rattle.asking.proofs.capacity.Goals as goal
 
-pub returns-then-e-lt64 : goal.returns-then-e-lt64
+pub returns-then-e-lt-WAY_OUT : goal.returns-then-e-lt-WAY_OUT
 unfolding cap_of
-returns-then-e-lt64 c = simp (lt-ltb _ _ c.if-e-lt64.true, c.at.ensures)
+returns-then-e-lt-WAY_OUT c = simp (lt-ltb _ _ c.if-e-lt-WAY_OUT.true, c.at.ensures)
 
 pub returns : goal.returns
 unfolding cap_of
-returns c = simp (le-ltb _ _ c.if-e-lt64.false)
+returns c = simp (le-ltb _ _ c.if-e-lt-WAY_OUT.false)

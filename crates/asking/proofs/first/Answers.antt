@@ -1,25 +1,9 @@
--- `asking::first` meets its contract. The invariant: none of the rows passed asks. Assumes nothing.
-use Rattle.std.proofs.Common.{◌≡◌, false, [], ◌∷◌, sym, ◌∙◌, arith, rules}
-use Rattle.theory_lists.specs.Every.{every_append}
-use Rattle.rows.specs.Rows.{rows_of, rows_in, row_at}
-use Rattle.rows.specs.Written.{rows_in-more}
+-- `asking::first` meets its contract. Assumes nothing.
+use Rattle.std.proofs.Common.{◌≡◌, Bool, rules}
+use Rattle.rows.specs.Rows.{Row}
 use Rattle.asking.specs.Ask.{asks_of}
+use Rattle.asking.specs.Reach.{found_by}
 use Rattle.asking.proofs.first.Goals as goal
 
-pub loop-i-init : goal.loop-i-init
-unfolding rows_of
-loop-i-init c = (search rules, tt)
-
-pub returns-then-asks : goal.returns-then-asks
-returns-then-asks c = (omega arith, c.loop-i.invariant.1, λ u. sym c.asks.ensures ∙ c.if-asks.true)
-
-pub loop-i-preserved : goal.loop-i-preserved
-loop-i-preserved c =
-    let s = c.args in (
-      omega arith,
-      rw (rows_in-more c.loop-i.i s.rows.now (omega arith))
-          (every_append (λ x. asks_of s.tables.now s.t s.e s.k x.state ≡ false) (rows_in c.loop-i.i s.rows.now) (row_at s.rows.now c.loop-i.i ∷ []) c.loop-i.invariant.1 (sym c.asks.ensures ∙ c.if-asks.false, tt)),
-    )
-
 pub returns : goal.returns
-returns c = (omega arith, c.loop-i.invariant.1, λ u. absurd (omega arith))
+returns c = found_by (λ (x : Row) (b : Bool). asks_of c.args.tables.now c.args.turn.minute c.args.turn.place c.args.turn.train x.state ≡ b) c.find.ensures (λ x b p. search rules)

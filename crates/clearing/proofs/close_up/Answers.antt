@@ -1,12 +1,13 @@
 -- `clearing::close_up` meets its contract. The invariant is `Closing`: the kept rows stand first, and what is still to be read is unchanged; and the pairs that
 -- the rows read so far concern are told. Assumes nothing.
-use mathlib.Core.Path.{◌≡◌, refl, sym, ap, ◌∙◌}
+use mathlib.Core.Path.{◌≡◌, sym, ap, ◌∙◌}
 use mathlib.Core.Bool.{not}
-use Prim.Native.Nat.{◌+◌, ◌*◌, ◌≤◌}
+use Prim.Native.Nat.{◌+◌, ◌*◌, ◌/◌, ◌≤◌}
 use native.Mathlib.Omega.{arith}
 use lib.ListN.{length, get_or, length-set}
 use Rattle.rows.specs.Rows.{rows_of}
-use Rattle.rows.specs.Swept.{closing_none, closing_long, closing_kept, closing_gone}
+use Rattle.rows.specs.Written.{rows_in-all}
+use Rattle.rows.specs.Swept.{closing_none, closing_kept, closing_gone}
 use Rattle.clearing.specs.Clearing.{leaves_none, leaves_gone, leaves_kept}
 use Rattle.clearing.proofs.close_up.Goals as goal
 use Rattle.clearing.proofs.close_up.Goals.{else-ended, then-ended}
@@ -14,10 +15,10 @@ use Rattle.clearing.proofs.close_up.Goals.{else-ended, then-ended}
 pub loop-i-init : goal.loop-i-init
 unfolding rows_of
 loop-i-init c =
-    let s = c.args in (omega arith, omega arith, closing_none s.t s.rows.now, leaves_none s.tables.now s.t s.notes.now c.requires.1, refl, refl)
+    let s = c.args in (omega arith, closing_none s.t s.rows.now, leaves_none s.tables.now s.t s.notes.now c.requires.0)
 
 pub tell_left-requires : goal.tell_left-requires
-tell_left-requires c = (c.loop-i.invariant.3.flagged.long, omega arith, c.requires.2)
+tell_left-requires c = (omega arith, c.requires.1)
 
 pub bounds-rows-j-else-ended : goal.bounds-rows-j-else-ended
 bounds-rows-j-else-ended c =
@@ -27,29 +28,23 @@ bounds-rows-j-else-ended c =
 pub loop-i-preserved : goal.loop-i-preserved
 loop-i-preserved c =
     let s = c.args in
-    let pairs = c.requires.2 in
+    let pairs = c.requires.1 in
     let at = c.loop-i in
+    let N = s.notes.now in
     let long : at.i * 2 + 2 ≤ length s.rows.now = omega arith in
     elim c.if-ended.branch [
       | then-ended w ↦ let gone = sym c.ended.ensures ∙ w.if-ended.true in
-          let told = leaves_gone s.tables.now pairs at.invariant.2 s.notes.now at.notes long at.invariant.3 gone in
-          let same = told.flagged.long ∙ sym at.invariant.3.flagged.long ∙ at.invariant.4 in
-          rw (w.rows-is, w.notes-is, w.j-is, w.tell_left.ensures) (omega arith, omega arith, closing_gone at.invariant.2 long (ap not gone), told, same, at.invariant.5)
+          let told = leaves_gone s.tables.now pairs at.invariant.1 N at.notes long at.invariant.2 gone in
+          rw (w.rows-is, w.notes-is, w.j-is, w.tell_left.ensures) (omega arith, closing_gone at.invariant.1 long (ap not gone), told)
       | else-ended w ↦ let stays = sym c.ended.ensures ∙ w.if-ended.false in
-          let kept = closing_kept at.invariant.2 long (ap not stays) in
-          let told = leaves_kept s.tables.now pairs at.invariant.2 s.notes.now at.notes long at.invariant.3 stays in
-          let same = closing_long s.t (at.i + 1) (at.j + 1) s.rows.now _ (omega arith) kept in
-          rw (w.rows-is, w.notes-is, w.j-is) (omega arith, omega arith, kept, told, at.invariant.4, same)
+          let kept = closing_kept at.invariant.1 long (ap not stays) in
+          let told = leaves_kept s.tables.now pairs at.invariant.1 N at.notes long at.invariant.2 stays in
+          rw (w.rows-is, w.notes-is, w.j-is) (omega arith, kept, told)
     ]
-
-pub shape_of-rows : goal.shape_of-rows
-shape_of-rows c = c.loop-i.invariant.5
-
-pub shape_of-notes : goal.shape_of-notes
-shape_of-notes c = c.loop-i.invariant.4
 
 pub returns : goal.returns
 returns c =
     let at = c.loop-i in
-    let e : at.i ≡ c.args.n = omega arith in
-    (rw (← e) at.invariant.2, rw (← e) at.invariant.3)
+    let was = c.args.rows.now in
+    let e : at.i ≡ length was / 2 = omega arith in
+    (rw (← e) at.invariant.1, rw (rows_in-all at.i was (omega arith) (omega arith)) at at.invariant.2)

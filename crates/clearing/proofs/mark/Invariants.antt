@@ -1,13 +1,7 @@
 -- `clearing::mark` meets its contract. The invariant: of the first i rows those that are due wait. Assumes nothing.
-use mathlib.Core.Path.{◌≡◌}
-use Prim.Native.Nat.{◌-◌, ◌≤◌}
-use lib.ListN.{length}
 use Rattle.rows.specs.Rows.{rows_in}
 use Rattle.clearing.specs.Clear.{Marks}
 use Rattle.clearing.proofs.mark.Given as goal
 
 abbrev pub invariant-loop-i : goal.invariant-loop-i
-invariant-loop-i l = (l.i ≤ l.n) × Marks l.tables l.t (rows_in l.i l.rows) l.initial.notes l.notes × (length l.notes ≡ length l.initial.notes)
-
-abbrev pub decreases-loop-i : goal.decreases-loop-i
-decreases-loop-i l = l.n - l.i
+invariant-loop-i l = Marks l.tables l.t (rows_in l.i l.rows) l.initial.notes l.notes

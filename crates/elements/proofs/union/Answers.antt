@@ -10,11 +10,11 @@ use Rattle.elements.proofs.union.Goals as goal
 
 pub loop-k-init : goal.loop-k-init
 unfolding union_of
-loop-k-init c = (omega arith, refl)
+loop-k-init c = refl
 
 pub loop-k-preserved : goal.loop-k-preserved
 loop-k-preserved c =
-    (omega arith, ap (λ x. bit_or x (get_or c.args.notes.now (c.loop-k.k * 128 + c.args.e) 0)) c.loop-k.invariant.1 ∙ union_more c.loop-k.k c.args.notes.now c.args.e)
+    ap (λ x. bit_or x (get_or c.args.notes.now (c.loop-k.k * 128 + c.args.e) 0)) c.loop-k.invariant ∙ union_more c.loop-k.k c.args.notes.now c.args.e
 
 pub returns : goal.returns
-returns c = let e : c.loop-k.k ≡ 8 = omega arith in c.loop-k.invariant.1 ∙ ap (λ x. union_of x c.args.notes.now c.args.e) e
+returns c = let e : c.loop-k.k ≡ 8 = omega arith in c.loop-k.invariant ∙ ap (λ x. union_of x c.args.notes.now c.args.e) e

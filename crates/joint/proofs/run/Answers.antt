@@ -3,7 +3,7 @@ use mathlib.Core.Path.{refl, ap, sym, ◌∙◌}
 use Prim.Native.Nat.{ℕ, ◌+◌}
 use native.Mathlib.Omega.{arith}
 use lib.ListN.{length, get_or, replicate, length-replicate}
-use Rattle.theory_lists.specs.Writes.{put_length, put_fits}
+use Rattle.theory_lists.specs.Writes.{put_length}
 use Rattle.opening.specs.First.{first_rows}
 use Rattle.visiting.specs.Visit.{guard}
 use Rattle.entries.specs.Run.{minutes_of}
@@ -12,7 +12,7 @@ use Rattle.joint.specs.Opened.{begin-kept, begin-outcome, begin-due, cleared-fla
 use Rattle.joint.proofs.run.Goals as goal
 
 pub enrol-requires : goal.enrol-requires
-enrol-requires c = (omega (arith, put_fits c.begin-w.ensures), cleared-flagged _ (length-replicate {A = ℕ} 6272 0) refl)
+enrol-requires c = cleared-flagged _ (length-replicate {A = ℕ} 6272 0) refl
 
 pub minutes-requires : goal.minutes-requires
 minutes-requires c =
@@ -30,7 +30,7 @@ minutes-requires c =
         held_long = omega (arith, long, p.1);
         entering_long = omega (arith, long, p.1);
       };
-      stop_bound = (p.2, p.3, p.4);
+      stop_bound = p.2;
       kept = (k, enrols.flagged, begin-due s.tables.now p.3 p.4 first _ b k enrols);
     }
 

@@ -10,23 +10,23 @@ use Rattle.opening.proofs.begin.Goals as goal
 pub loop-k-init : goal.loop-k-init
 loop-k-init c =
     let s = c.args in
-    (c.at-n.ensures, omega arith, rw (trains-none s.tables.now) (put_none s.rows.now 0 (omega arith)))
+    (c.at-n.ensures, rw (trains-none s.tables.now) (put_none s.rows.now 0 (omega arith)))
 
 pub first_train-at-requires : goal.first_train-at-requires
-first_train-at-requires c = (c.requires, omega (arith, c.loop-k.invariant.0, c.loop-k-test.true, c.requires.trains), put_fits c.loop-k.invariant.2)
+first_train-at-requires c = (c.requires, omega (arith, c.loop-k.invariant.0, c.requires.trains), put_fits c.loop-k.invariant.1)
 
 pub loop-k-preserved : goal.loop-k-preserved
 loop-k-preserved c =
     let s = c.args in
     let l = c.loop-k in
-    (l.invariant.0, omega (arith, c.loop-k-test.true), rw (trains-more s.tables.now l.k) (put_join l.invariant.2 c.first_train-at.ensures))
+    (l.invariant.0, rw (trains-more s.tables.now l.k) (put_join l.invariant.1 c.first_train-at.ensures))
 
 pub shape_of-rows : goal.shape_of-rows
-shape_of-rows c = put_length c.loop-k.invariant.2
+shape_of-rows c = put_length c.loop-k.invariant.1
 
 pub returns : goal.returns
 unfolding first_rows
 returns c =
     let l = c.loop-k in
-    let e : l.k ≡ get_or c.args.tables.now 0 0 = omega (arith, l.invariant.0, l.invariant.1, c.loop-k-test.false) in
-    rw (← e) l.invariant.2
+    let e : l.k ≡ get_or c.args.tables.now 0 0 = omega (arith, l.invariant.0) in
+    rw (← e) l.invariant.1

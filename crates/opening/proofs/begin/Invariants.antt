@@ -8,7 +8,4 @@ use Rattle.opening.specs.Beginning.{first_trains}
 use Rattle.opening.proofs.begin.Given as goal
 
 abbrev pub invariant-loop-k : goal.invariant-loop-k
-invariant-loop-k l = (l.n ≡ get_or l.tables 0 0) × (l.k ≤ l.n) × Put l.initial.rows 0 (words (first_trains l.tables l.k)) l.at l.rows
-
-abbrev pub decreases-loop-k : goal.decreases-loop-k
-decreases-loop-k l = l.n - l.k
+invariant-loop-k l = (l.n ≡ get_or l.tables 0 0) × Put l.initial.rows 0 (words (first_trains l.tables l.k)) l.at l.rows

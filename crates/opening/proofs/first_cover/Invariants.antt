@@ -5,7 +5,4 @@ use Rattle.opening.specs.First.{first_bytes}
 use Rattle.opening.proofs.first_cover.Given as goal
 
 abbrev pub invariant-loop-j : goal.invariant-loop-j
-invariant-loop-j l = (l.j ≤ 8) × (l.c ≡ first_bytes l.tables l.k l.d (8 - l.j) l.j) × (l.c < 256 ^ (8 - l.j))
-
-abbrev pub decreases-loop-j : goal.decreases-loop-j
-decreases-loop-j l = l.j
+invariant-loop-j l = (l.c ≡ first_bytes l.tables l.k l.d (8 - l.j) l.j) × (l.c < 256 ^ (8 - l.j))

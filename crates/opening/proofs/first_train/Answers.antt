@@ -18,19 +18,19 @@ overflow_add-k-2 c = omega (arith, c.requires.1)
 pub loop-d-init : goal.loop-d-init
 loop-d-init c =
     let s = c.args in
-    (c.at-n.ensures, c.at-arrival.ensures, omega arith, rw (train-none s.tables.now s.k) (put_none s.rows.now s.w c.requires.2))
+    (c.at-n.ensures, c.at-arrival.ensures, rw (train-none s.tables.now s.k) (put_none s.rows.now s.w c.requires.2))
 
 pub overflow_mul-k : goal.overflow_mul-k
 overflow_mul-k c = omega (arith, c.requires.1)
 
 pub overflow_add-k-in-loop-d : goal.overflow_add-k-in-loop-d
-overflow_add-k-in-loop-d c = omega (arith, c.requires.1, c.loop-d-test.true, c.loop-d.invariant.0, c.requires.0.delays c.args.k c.requires.1)
+overflow_add-k-in-loop-d c = omega (arith, c.requires.1, c.loop-d.invariant.0, c.requires.0.delays c.args.k c.requires.1)
 
 pub overflow_add-k-in-loop-d-2 : goal.overflow_add-k-in-loop-d-2
-overflow_add-k-in-loop-d-2 c = omega (arith, c.requires.1, c.loop-d-test.true, c.loop-d.invariant.0, c.requires.0.delays c.args.k c.requires.1)
+overflow_add-k-in-loop-d-2 c = omega (arith, c.requires.1, c.loop-d.invariant.0, c.requires.0.delays c.args.k c.requires.1)
 
 pub first_cover-c-requires : goal.first_cover-c-requires
-first_cover-c-requires c = (c.requires.0, omega (arith, c.loop-d-test.true, c.loop-d.invariant.0, c.requires.0.delays c.args.k c.requires.1))
+first_cover-c-requires c = (c.requires.0, omega (arith, c.loop-d.invariant.0, c.requires.0.delays c.args.k c.requires.1))
 
 pub overflow_mul-k-in-loop-d : goal.overflow_mul-k-in-loop-d
 overflow_mul-k-in-loop-d c = omega (arith, c.requires.1)
@@ -49,7 +49,7 @@ overflow_add-k-in-loop-d-4 c =
     omega (arith, c.requires.1, c.loop-d.invariant.1, c.requires.0.words (32 + s.k), c.at-delay.ensures, c.requires.0.words (48 + (s.k * 8 + c.loop-d.d)))
 
 pub append-at-requires : goal.append-at-requires
-append-at-requires c = put_fits c.loop-d.invariant.3
+append-at-requires c = put_fits c.loop-d.invariant.2
 
 pub loop-d-preserved : goal.loop-d-preserved
 unfolding first_row words
@@ -60,15 +60,14 @@ loop-d-preserved c =
     let row_is = c.append-at.ensures in (
       l.invariant.0,
       l.invariant.1,
-      omega (arith, c.loop-d-test.true),
-      rw (train-more T s.k l.d) (put_join l.invariant.3 (rw (l.invariant.1, c.at-delay.ensures, c.first_cover-c.ensures) at row_is)),
+      rw (train-more T s.k l.d) (put_join l.invariant.2 (rw (l.invariant.1, c.at-delay.ensures, c.first_cover-c.ensures) at row_is)),
     )
 
 pub shape_of-rows : goal.shape_of-rows
-shape_of-rows c = put_length c.loop-d.invariant.3
+shape_of-rows c = put_length c.loop-d.invariant.2
 
 pub returns : goal.returns
 returns c =
     let l = c.loop-d in
-    let e : l.d ≡ get_or c.args.tables.now (40 + c.args.k) 0 = omega (arith, l.invariant.0, l.invariant.2, c.loop-d-test.false) in
-    rw (← e) l.invariant.3
+    let e : l.d ≡ get_or c.args.tables.now (40 + c.args.k) 0 = omega (arith, l.invariant.0) in
+    rw (← e) l.invariant.2

@@ -10,7 +10,4 @@ use Rattle.opening.specs.First.{first_row}
 use Rattle.opening.proofs.first_train.Given as goal
 
 abbrev pub invariant-loop-d : goal.invariant-loop-d
-invariant-loop-d l = (l.n ≡ get_or l.tables (40 + l.k) 0) × (l.arrival ≡ get_or l.tables (32 + l.k) 0) × (l.d ≤ l.n) × Put l.initial.rows l.w (words (map (first_row l.tables l.k) (below l.d))) l.at l.rows
-
-abbrev pub decreases-loop-d : goal.decreases-loop-d
-decreases-loop-d l = l.n - l.d
+invariant-loop-d l = (l.n ≡ get_or l.tables (40 + l.k) 0) × (l.arrival ≡ get_or l.tables (32 + l.k) 0) × Put l.initial.rows l.w (words (map (first_row l.tables l.k) (below l.d))) l.at l.rows

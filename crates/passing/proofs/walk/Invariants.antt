@@ -1,6 +1,5 @@
 -- `passing::walk` meets its contract. The invariant: both outputs have what comes of the first i rows. Assumes nothing.
-use mathlib.Core.Path.{◌≡◌}
-use Prim.Native.Nat.{◌-◌, ◌≤◌}
+use Prim.Native.Nat.{◌-◌, ◌/◌, ◌≤◌}
 use lib.ListN.{length}
 use Rattle.rules.specs.Lists.{each}
 use Rattle.theory_lists.specs.Every.{Every}
@@ -9,12 +8,11 @@ use Rattle.asking.specs.Ask.{stirs_of}
 use Rattle.serving.specs.Pass.{hold_by, enter_by, met_in, Went, Two}
 use Rattle.passing.proofs.walk.Given as goal
 
-abbrev pub invariant-loop-i : goal.invariant-loop-i
-invariant-loop-i l =
-    (l.i ≤ l.n)
-    × Two l.initial.rows l.d (words (each (hold_by (stirs_of l.key l.q.minute l.u) (met_in l.q.cap l.first l.met)) (rows_in l.i l.src))) l.at l.rows l.initial.entering 0 (each (enter_by (stirs_of l.key l.q.minute l.u) (met_in l.q.cap l.first l.met)) (rows_in l.i l.src)) l.a l.entering
-    × (length l.held ≡ length l.initial.held)
-    × Every (λ x. Went (hold_by (stirs_of l.key l.q.minute l.u) (met_in l.q.cap l.first l.met) x) (enter_by (stirs_of l.key l.q.minute l.u) (met_in l.q.cap l.first l.met) x) l.m x) (rows_in l.i l.src)
+abbrev pub invariant-loop-j : goal.invariant-loop-j
+invariant-loop-j l =
+    (l.i ≤ length l.src / 2)
+    × Two l.initial.rows l.d (words (each (hold_by (stirs_of l.key l.minute l.u) (met_in l.meets.cap l.meets.first l.meets.met.now)) (rows_in l.i l.src))) l.ends.place l.rows l.initial.entering 0 (each (enter_by (stirs_of l.key l.minute l.u) (met_in l.meets.cap l.meets.first l.meets.met.now)) (rows_in l.i l.src)) l.ends.entering l.entering
+    × Every (λ x. Went (hold_by (stirs_of l.key l.minute l.u) (met_in l.meets.cap l.meets.first l.meets.met.now) x) (enter_by (stirs_of l.key l.minute l.u) (met_in l.meets.cap l.meets.first l.meets.met.now) x) l.ends.moved x) (rows_in l.i l.src)
 
-abbrev pub decreases-loop-i : goal.decreases-loop-i
-decreases-loop-i l = l.n - l.i
+abbrev pub decreases-loop-j : goal.decreases-loop-j
+decreases-loop-j l = length l.src / 2 - l.i

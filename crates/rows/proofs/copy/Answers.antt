@@ -1,43 +1,40 @@
--- `rows::copy` meets its contract. The invariant: what is written is the part up to i more. Assumes nothing.
-use mathlib.Core.Path.{◌≡◌, refl, ◌∙◌}
-use Prim.Native.Nat.{◌+◌}
-use native.Mathlib.Omega.{arith}
-use lib.ListN.{length-set}
-use lib.Seq.{slice, slice_empty}
-use Rattle.theory_lists.specs.Writes.{Put, put_none, put_one, put_join}
-use Rattle.rows.specs.Written.{put_filled, slice_more}
-use borrow.Author.Rules.{rules}
+-- `rows::copy` meets its contract: what fits of the part stands where it was to go. Assumes nothing.
+use Rattle.std.proofs.Common.{◌≡◌, ℕ, List, ◌++◌, ◌+◌, ◌-◌, ◌≤◌, min, length, take, drop, ap, sym, ◌∙◌, arith, append_assoc, drop-drop}
+use Rattle.std.proofs.Math.Decide.{dec_le}
+use Rattle.std.proofs.Math.Seq.{slice, length-slice}
+use Rattle.std.proofs.lemmas.List.Edits.{sets-eq}
+use Rattle.std.proofs.lemmas.Slice.{between_is}
+use borrow.Rule.Slice.PartMut.{put_mid}
+use Rattle.theory_lists.specs.Writes.{Put}
+use Rattle.rows.specs.Written.{put_filled}
 use Rattle.rows.proofs.copy.Goals as goal
-use Rattle.rows.proofs.copy.Goals.{else-out-d, then-out-d}
 
-pub loop-i-init : goal.loop-i-init
-loop-i-init c =
-    let s = c.args in
-    let e : s.d + 0 ≡ s.d = omega arith in
-    let f : s.a + 0 ≡ s.a = omega arith in
-    let p : Put s.out.now s.d (slice s.a (s.a + 0) s.from.now) (s.d + 0) s.out.now = rw (e, f, slice_empty s.a s.from.now) (put_none s.out.now s.d (search rules)) in
-    elim c.if-out-d.branch [
-      | then-out-d w ↦ (omega arith, omega (arith, w.n-is), omega (arith, w.n-is), refl, p)
-      | else-out-d w ↦ (omega arith, omega (arith, w.n-is), omega (arith, w.n-is), refl, p)
-    ]
+-- n words from a on that stand in the place of as many from d on
+module _ (a n z d : ℕ) (from out ys : List ℕ) (ends : a + n ≤ z) (long : z ≤ length from) (fits : d + n ≤ length out) (are : ys ≡ slice a (a + n) from) where
+  copied-long : length (slice a (a + n) from) ≡ n
+  copied-long = omega (arith, length-slice a (a + n) from (omega arith))
 
-pub loop-i-preserved : goal.loop-i-preserved
-loop-i-preserved c =
-    let at = c.loop-i in
-    let s = c.args in
-    let e : s.d + (at.i + 1) ≡ s.d + at.i + 1 = omega arith in
-    let f : s.a + (at.i + 1) ≡ s.a + at.i + 1 = omega arith in
-    (omega arith, omega arith, omega arith, length-set at.out (s.d + at.i) _ ∙ at.invariant.3, rw (e, f, slice_more s.a (s.a + at.i) s.from.now (omega arith) (omega arith)) (put_join at.invariant.4 (put_one at.out (s.d + at.i) _ (omega (arith, at.invariant.3)))))
+  copied-there : Put out d (slice a (a + n) from) (d + n) (put_mid d (d + n - d) out ys)
+  copied-there =
+      let k : d + length (slice a (a + n) from) ≡ d + (d + n - d) = omega (arith, copied-long) in
+      record {
+        place = omega (arith, copied-long);
+        list = ap (λ (l : List ℕ). put_mid d (d + n - d) out l) are
+            ∙ ap (λ (l : List ℕ). take d out ++ (slice a (a + n) from ++ l)) (drop-drop (d + n - d) d out ∙ ap (λ (m : ℕ). drop m out) (sym k))
+            ∙ sym (append_assoc (take d out) (slice a (a + n) from) (drop (d + length (slice a (a + n) from)) out))
+            ∙ sym (sets-eq (slice a (a + n) from) out d (omega (arith, copied-long)));
+      }
 
-pub shape_of-out : goal.shape_of-out
-shape_of-out c = c.loop-i.invariant.3
+  copied : n ≡ min (z - a) (length out - d) → a ≤ z → Put out d (slice a z from) (d + n) (put_mid d (d + n - d) out ys)
+  copied least some = go (dec_le (z - a) n)
+    where
+      go : Dec (z - a ≤ n) → Put out d (slice a z from) (d + n) (put_mid d (d + n - d) out ys)
+      go (yes h) = let e : a + n ≡ z = omega arith in rw e at copied-there
+      go (no h) = put_filled a (a + n) z from (omega arith) ends long copied-there (omega arith)
 
 pub returns : goal.returns
 returns c =
     let s = c.args in
-    let at = c.loop-i in
-    let e : at.i ≡ c.if-out-d.n = omega arith in
-    elim c.if-out-d.branch [
-      | then-out-d w ↦ rw (← e) (put_filled s.a (s.a + at.i) s.z s.from.now (omega arith) (omega arith) (search rules) at.invariant.4 (omega (arith, w.n-is)))
-      | else-out-d w ↦ let f : s.a + at.i ≡ s.z = omega (arith, w.n-is) in rw (← e, ← f) at.invariant.4
-    ]
+    copied s.a c.min-n.result s.z s.d s.from.now s.out.now c.copy_from_slice.new.self
+    (omega (arith, c.min-n.ensures)) c.requires.1 (omega (arith, c.min-n.ensures))
+    (c.copy_from_slice.ensures.after ∙ between_is s.from.now s.a (s.a + c.min-n.result)) c.min-n.ensures c.requires.0

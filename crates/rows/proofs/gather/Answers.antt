@@ -5,8 +5,8 @@ use native.Mathlib.Omega.{arith}
 use mathlib.Core.Bool.{not}
 use lib.ListN.{get_or, length-set}
 use lib.Dec.{eqb}
-use Rattle.rows.specs.Rows.{rows_of, met_of}
-use Rattle.rows.specs.Written.{met_offered, met-passed, one-few}
+use Rattle.rows.specs.Rows.{rows_of, rows_in, met_of}
+use Rattle.rows.specs.Written.{met_offered, met-passed, one-few, rows_in-all}
 use borrow.Author.Rules.{rules}
 use Rattle.rows.proofs.gather.Goals as goal
 use Rattle.rows.proofs.gather.Goals.{else-s-e, then-s-e}
@@ -32,5 +32,6 @@ shape_of-out c = c.loop-i.invariant.2
 
 pub returns : goal.returns
 returns c =
-    let e : c.loop-i.i ≡ c.args.n = omega arith in
-    (omega (arith, c.loop-i.invariant.1), record { few = omega (arith, c.loop-i.invariant.1, c.loop-i.invariant.2); list = rw (← e) c.loop-i.invariant.3 })
+    let rows = c.args.rows.now in
+    let all : rows_in c.loop-i.i rows ≡ rows_of rows = rows_in-all c.loop-i.i rows (omega arith) (omega arith) in
+    (omega (arith, c.loop-i.invariant.1), record { few = omega (arith, c.loop-i.invariant.1, c.loop-i.invariant.2); list = rw (← all) c.loop-i.invariant.3 })

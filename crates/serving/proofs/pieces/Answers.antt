@@ -2,6 +2,6 @@
 use Rattle.cut.specs.Cut.{crossed}
 use Rattle.serving.proofs.pieces.Goals as goal
 
-pub returns-then-first-eq0 : goal.returns-then-first-eq0
+pub returns-then-meets-eq0 : goal.returns-then-meets-eq0
 unfolding crossed
-returns-then-first-eq0 c = rw c.if-first-eq0.true c.carry.ensures
+returns-then-meets-eq0 c = rw c.if-meets-eq0.true c.carry.ensures

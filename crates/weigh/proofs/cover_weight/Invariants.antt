@@ -6,6 +6,3 @@ use Rattle.weigh.proofs.cover_weight.Given as goal
 
 abbrev pub invariant-loop-j : goal.invariant-loop-j
 invariant-loop-j l = (l.n ≡ get_or l.tables 0 0) × (l.j ≤ l.n) × (cover_weight l.tables 0 l.n l.c ≡ l.product * cover_weight l.tables l.j (l.n - l.j) l.left) × (l.product ≤ 100 ^ l.j)
-
-abbrev pub decreases-loop-j : goal.decreases-loop-j
-decreases-loop-j l = l.n - l.j

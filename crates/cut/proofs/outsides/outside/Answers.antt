@@ -4,7 +4,7 @@ use native.Mathlib.Omega.{arith}
 use lib.Bits.{and_le_l}
 use Rattle.cut.specs.Cut.{outside_of}
 use Rattle.cut.proofs.Laws.{shifted, mask_small}
-use Rattle.cut.proofs.outside.Goals as goal
+use Rattle.cut.proofs.outsides.outside.Goals as goal
 
 pub overflow_add-result : goal.overflow_add-result
 overflow_add-result c = let e = shifted c.args.lost c.args.k (omega arith) in omega arith
