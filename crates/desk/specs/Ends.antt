@@ -1,10 +1,11 @@
 -- The ends of the calls, from their definitions: 14 where lent memory is too short, and otherwise what the run comes to, laid into memory.
 -- Each law goes by the cases of the run's result. Assumes nothing.
-use Rattle.std.specs.Prelude.{◌≡◌, true, false, List, [], ℕ, ◌≤◌, ◌<◌}
+use Rattle.std.specs.Prelude.{◌≡◌, Bool, true, false, ◌||◌, List, [], ℕ, ◌≤◌}
 use Rattle.std.proofs.Math.Path.{refl, sym, ap}
-use Rattle.std.proofs.Common.{◌∙◌, arith}
+use Rattle.std.proofs.Common.{◌∙◌, subst, arith}
 use Rattle.std.proofs.Math.ListN.{length}
-use borrow.Author.Tests.{lt-ltb, le-ltb}
+use borrow.Author.Tests.{le-ltb, ltb-false}
+use Rattle.std.proofs.Math.Dec.{ltb}
 use Rattle.rules.specs.Refusals.{nowhere, Result, refuse}
 use Rattle.rules.specs.Refusals.Result.{refused, answer}
 use Rattle.rules.specs.Figures as rules
@@ -14,7 +15,10 @@ use Rattle.out_images.specs.Rows.{Weighed}
 use Rattle.out_figures.specs.declared.Figures.{Figures}
 use Rattle.out_figures.specs.Answers.{figures_answer, no_figures}
 use Rattle.out_figures.specs.Laws.{case-of}
+use Rattle.std.specs.Prelude.{Result as Outcome, Ok, Err}
+use Rattle.file_fields.specs.declared.refusals.Refusal.{Refusal}
 use Rattle.laying.specs.declared.Answer.{Answer}
+use Rattle.laying.specs.Told.{refusal_of, answer_to, Reached}
 use Rattle.telling.specs.declared.TrainFigures.{TrainFigures}
 use Rattle.laying.specs.Answers.{refused_with, answered, answer_of}
 use Rattle.telling.specs.Answers.{train_figures, figures_of}
@@ -27,21 +31,38 @@ abbrev too_short_answer : Answer
 too_short_answer = refused_with (record { number = 14; file = 0; place = 0 })
 
 module _ (asked : ℕ) (rows weights text : List ℕ) where
-  pub short-rows : length rows < 16384 → short asked (lent_three rows weights text) ≡ true
-  unfolding short
-  short-rows h = rw (lt-ltb (length rows) 16384 h)
-
-  pub short-weights : 16384 ≤ length rows → length weights < 40320 → short asked (lent_three rows weights text) ≡ true
-  unfolding short
-  short-weights l h = rw (le-ltb (length rows) 16384 l, lt-ltb (length weights) 40320 h)
-
-  pub short-text : 16384 ≤ length rows → 40320 ≤ length weights → length text < asked → short asked (lent_three rows weights text) ≡ true
-  unfolding short
-  short-text l m h = rw (le-ltb (length rows) 16384 l, le-ltb (length weights) 40320 m, lt-ltb (length text) asked h)
-
   pub long : 16384 ≤ length rows → 40320 ≤ length weights → asked ≤ length text → short asked (lent_three rows weights text) ≡ false
   unfolding short
   long l m h = rw (le-ltb (length rows) 16384 l, le-ltb (length weights) 40320 m, le-ltb (length text) asked h)
+
+-- memory that is long enough
+module _ (asked : ℕ) (rows weights text : List ℕ) (h : short asked (lent_three rows weights text) ≡ false) where
+  pub long-rows : 16384 ≤ length rows
+  unfolding short
+  long-rows = go (ltb (length rows) 16384) refl h
+    where
+      go : (b : Bool) → ltb (length rows) 16384 ≡ b → (b || ltb (length weights) 40320 || ltb (length text) asked) ≡ false → 16384 ≤ length rows
+      go true e z = absurd (cc z)
+      go false e z = ltb-false (length rows) 16384 e
+
+  pub long-weights : 40320 ≤ length weights
+  unfolding short
+  long-weights = go (ltb (length rows) 16384) (ltb (length weights) 40320) refl h
+    where
+      go : (a b : Bool) → ltb (length weights) 40320 ≡ b → (a || b || ltb (length text) asked) ≡ false → 40320 ≤ length weights
+      go true b e z = absurd (cc z)
+      go false true e z = absurd (cc z)
+      go false false e z = ltb-false (length weights) 40320 e
+
+  pub long-text : asked ≤ length text
+  unfolding short
+  long-text = go (ltb (length rows) 16384) (ltb (length weights) 40320) (ltb (length text) asked) refl h
+    where
+      go : (a b d : Bool) → ltb (length text) asked ≡ d → (a || b || d) ≡ false → asked ≤ length text
+      go true b d e z = absurd (cc z)
+      go false true d e z = absurd (cc z)
+      go false false true e z = absurd (cc z)
+      go false false false e z = ltb-false (length text) asked e
 
 module _ {A : Type 0} (asked : ℕ) (value : Run → A) (text : Run → List ℕ) (m : Memory) (U : Result Run) where
   call-short : short asked m ≡ true → call asked value text m U ≡ record { result = refuse 14 nowhere; memory = m }
@@ -92,14 +113,27 @@ module _ (cs bk : List ℕ) (m : ℕ) {rows weights : List ℕ} where
   unfolding run_call
   run_short q h = short_gives answer_of 0 (λ u. length u.state.list) (λ u. []) (lent_two rows weights) (stopped_run cs bk m) q h
 
-  pub run-laid : {U : Result Run} {a : Answer} {tables ws rows' weights' : List ℕ} → U ≡ stopped_run cs bk m → short 0 (lent_two rows weights) ≡ false
-      → Laid U rows weights a tables ws rows' weights' → Gives answer_of (run_call cs bk m (lent_two rows weights)) a rows' weights'
+  pub run-laid : {U : Result Run} {a b : Answer} {tables ws rows' weights' : List ℕ} → U ≡ stopped_run cs bk m → short 0 (lent_two rows weights) ≡ false
+      → Laid U rows weights a tables ws rows' weights' → b ≡ a → Gives answer_of (run_call cs bk m (lent_two rows weights)) b rows' weights'
   unfolding run_call
-  run-laid {U} e h w = long_gives answer_of 0 (λ u. length u.state.list) (λ u. []) (lent_two rows weights) e h (w.result ∙ result U) w
+  run-laid {U} e h w q = long_gives answer_of 0 (λ u. length u.state.list) (λ u. []) (lent_two rows weights) e h (q ∙ w.result ∙ result U) w
     where
       result : (W : Result Run) → answer_of (entries W) ≡ answer_of (lent 0 (λ u. length u.state.list) (λ u. []) (lent_two rows weights) W).result
       result (refused r) = refl
       result (answer u) = refl
+
+-- ---- what the run came to, as the code has it
+
+-- a refusal has a number
+pub was_refused : {o : Outcome ℕ Refusal} {r : Refusal} → o ≡ Err r → Reached o → (answer_to o).refusal ≡ 0 → ⊥
+was_refused e h z = omega (arith, (subst Reached e h).some, ap (λ (p : Outcome ℕ Refusal). (answer_to p).refusal) e)
+
+-- and its answer
+pub refusal_told : {o : Outcome ℕ Refusal} {r : Refusal} → o ≡ Err r → refused_with (refusal_of r) ≡ answer_to o
+refusal_told e = sym (ap answer_to e)
+
+pub was_answered : {o : Outcome ℕ Refusal} {n : ℕ} → o ≡ Ok n → (answer_to o).refusal ≡ 0
+was_answered e = ap (λ (p : Outcome ℕ Refusal). (answer_to p).refusal) e
 
 -- ---- an answered run
 
@@ -141,13 +175,13 @@ module _ (cs bk : List ℕ) {rows weights : List ℕ} (text : List ℕ) where
     }
 
     -- refused, the text is cleared
-    pub listing-refused : {text' : List ℕ} → (a.refusal ≡ 0 → ⊥) → text' ≡ filled 32768 [] text
-        → GivesText answer_of (listing_call cs bk (lent_three rows weights text)) a rows' weights' text'
-    listing-refused {text'} some t = go U refl w.result
+    pub listing-refused : {b : Answer} {text' : List ℕ} → (a.refusal ≡ 0 → ⊥) → b ≡ a → text' ≡ filled 32768 [] text
+        → GivesText answer_of (listing_call cs bk (lent_three rows weights text)) b rows' weights' text'
+    listing-refused {b} {text'} some told t = go U refl w.result
       where
-        go : (W : Result Run) → U ≡ W → a ≡ answer_of (entries W) → GivesText answer_of (listing_call cs bk (lent_three rows weights text)) a rows' weights' text'
+        go : (W : Result Run) → U ≡ W → a ≡ answer_of (entries W) → GivesText answer_of (listing_call cs bk (lent_three rows weights text)) b rows' weights' text'
         go (refused r) p q =
-            gives (q ∙ ap (λ (W : Result Run). answer_of (lent 32768 (λ u. length (text_of u)) text_of (lent_three rows weights text) W).result) (sym p))
+            gives (told ∙ q ∙ ap (λ (W : Result Run). answer_of (lent 32768 (λ u. length (text_of u)) text_of (lent_three rows weights text) W).result) (sym p))
             (t ∙ ap (λ (W : Result Run). (lent 32768 (λ u. length (text_of u)) text_of (lent_three rows weights text) W).memory.text) (sym p))
         go (answer u) p q = absurd (some (ap (λ (b : Answer). b.refusal) q))
 
@@ -191,11 +225,10 @@ module _ (cs bk : List ℕ) (k L : ℕ) {rows weights : List ℕ} where
             ∙ ap (λ (W : Result Run). figures_of (lent 0 (figures_on k L) (λ u. []) (lent_two rows weights) W).result) (sym p))
         go (answer u) p q = absurd (some (ap (λ (b : Answer). b.refusal) q))
 
-    pub figures-answered : (s : Stood U tables ws) {f : Figures} {z : TrainFigures} → f ≡ figures_answer (figures_on k L s.run) → z ≡ train_figures a f
+    pub figures-answered : (s : Stood U tables ws) {f : Figures} {z : TrainFigures} → f ≡ figures_answer (figures_on k L s.run) → z ≡ train_figures (answered 0) f
         → Gives figures_of (figures_call cs bk k L (lent_two rows weights)) z rows' weights'
     figures-answered s {f} {z} q t =
         gives_figures (t
-        ∙ ap (λ (b : Answer). train_figures b f) (w.result ∙ ap (λ (W : Result Run). answer_of (entries W)) s.is)
         ∙ ap (train_figures (answered 0)) q
         ∙ figures-told (figures_on k L s.run)
         ∙ ap (λ (W : Result Run). figures_of (lent 0 (figures_on k L) (λ u. []) (lent_two rows weights) W).result) (sym s.is))

@@ -14,11 +14,15 @@ use Rattle.file_fields.specs.Fields.{field_of, field_at}
 use Rattle.desk.specs.declared.Viewed.{Viewed}
 use Rattle.desk.specs.Answers.{viewed_struct, FieldGives}
 
+-- no field at a place, and why: 0 at the file's end
+abbrev pub none_given : ℕ → ℕ → Viewed
+none_given refusal i = record { refusal = refusal; given = 0; tag = 0; size = 0; next = i }
+
 -- the answer for what stands at place i
 abbrev pub told_of : ℕ → Field → Viewed
 told_of i (Whole tag size end) = record { refusal = 0; given = 1; tag = tag; size = size; next = end }
-told_of i Ended = record { refusal = 0; given = 0; tag = 0; size = 0; next = i }
-told_of i Overrun = record { refusal = 1; given = 0; tag = 0; size = 0; next = i }
+told_of i Ended = none_given 0 i
+told_of i Overrun = none_given 1 i
 
 told-viewed : (i : ℕ) (v : View) → told_of i (field_of v) ≡ viewed_struct (view_answer i v)
 told-viewed i (field tag size end) = refl

@@ -10,7 +10,7 @@ use Rattle.rules.specs.Files.{Case, files, word}
 use Rattle.rules.specs.Calls.{run_to, no_such_train, stopped_run, whole_run, train_run}
 use Rattle.theory_sound.specs.Places.{Told}
 use Rattle.theory_sound.proofs.Places.{files-told}
-use Rattle.file_lookup.specs.declared.Files.{Files}
+use Rattle.file_lookup.specs.Told.{Files}
 use Rattle.file_lookup.specs.Answers.{files_of}
 use Rattle.file_arguments.specs.Arguments.{for_train, for_stop}
 use Rattle.file_arguments.specs.Laws.{minute_agrees}

@@ -1,4 +1,5 @@
 pub mod Answers
+pub mod Begun
 pub mod Fields
 pub mod Laws
 pub mod Plain

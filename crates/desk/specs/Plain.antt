@@ -19,8 +19,8 @@ use Rattle.theory_sound.proofs.Accepted.{accepted-sound}
 use Rattle.theory_codes.specs.Tables.{tables}
 use Rattle.theory_plain.specs.Numbered.{times, choices-count, combinations-most}
 use Rattle.theory_plain.specs.Decided.{plain_on, weighing-short, weighing-long}
-use Rattle.file_lookup.specs.declared.Files.{Files}
-use Rattle.file_lookup.specs.declared.Files.TheVariants as told
+use Rattle.file_lookup.specs.Told.{Files}
+use Rattle.file_lookup.specs.Told.Files.{Sound as SoundFiles, Unsound as UnsoundFiles}
 use Rattle.file_lookup.specs.declared.Sizes.{Sizes}
 use Rattle.file_lookup.specs.Answers.{files_of}
 use Rattle.file_lookup.specs.Laws.{sound_unsound}
@@ -71,11 +71,11 @@ module _ (cs bk : List ℕ) (m : ℕ) {s : Sizes} (b : Begins cs bk m s) (tb : L
 -- ---- the ends of a call
 
 pub start_tells : (cs bk : List ℕ) (m : ℕ) (f : Files) → Start cs bk m f → Tells f
-start_tells cs bk m (told.Sound s) h = tt
-start_tells cs bk m (told.Unsound n i p) h = h
+start_tells cs bk m (SoundFiles s) h = tt
+start_tells cs bk m (UnsoundFiles n i p) h = h
 
 -- the case that the run is of
-pub start_begins : (cs bk : List ℕ) (m : ℕ) {f : Files} {s : Sizes} → f ≡ told.Sound s → Start cs bk m f → Begins cs bk m s
+pub start_begins : (cs bk : List ℕ) (m : ℕ) {f : Files} {s : Sizes} → f ≡ SoundFiles s → Start cs bk m f → Begins cs bk m s
 start_begins cs bk m e h = subst (Start cs bk m) e h
 
 module _ (which : Case → List (List ℕ)) (image : Plain → List ℕ) (cs bk : List ℕ) (m : ℕ) (weights : List ℕ) where
@@ -90,7 +90,7 @@ module _ (which : Case → List (List ℕ)) (image : Plain → List ℕ) (cs bk 
       subst (λ (L : LentWeights). GivesWeights L a weights) (sym (weighing-short image weights (plain_of which cs bk m) h)) (record { result = q; weights_are = refl })
 
   module _ {f : Files} (e : f ≡ files_of (for_stop cs bk m)) (long : 40320 ≤ length weights) where
-    pub plain_refused : {n i p : ℕ} {a : Answer} {weights' : List ℕ} → f ≡ told.Unsound n i p → a ≡ files_answer f → weights' ≡ filled 40320 [] weights
+    pub plain_refused : {n i p : ℕ} {a : Answer} {weights' : List ℕ} → f ≡ UnsoundFiles n i p → a ≡ files_answer f → weights' ≡ filled 40320 [] weights
         → GivesWeights (weighing image weights (plain_of which cs bk m)) a weights'
     plain_refused {a = a} {weights' = weights'} u w c = go (stop-judged cs bk m)
       where
@@ -102,7 +102,7 @@ module _ (which : Case → List (List ℕ)) (image : Plain → List ℕ) (cs bk 
             (record { result = w ∙ ap files_answer (e ∙ ap files_of q); weights_are = c })
         go (goes C h l q) = absurd (sound_unsound _ _ _ _ (sym (sym u ∙ e ∙ ap files_of q)))
 
-    pub plain_answered : {s : Sizes} {n : ℕ} {a : Answer} {weights' : List ℕ} → f ≡ told.Sound s → a ≡ answered n
+    pub plain_answered : {s : Sizes} {n : ℕ} {a : Answer} {weights' : List ℕ} → f ≡ SoundFiles s → a ≡ answered n
         → ((C : Case) → files cs bk ≡ answer C → (n ≡ length (which C)) × (weights' ≡ filled 40320 (image (plain_on C m (which C))) weights))
         → GivesWeights (weighing image weights (plain_of which cs bk m)) a weights'
     plain_answered {n = n} {a = a} {weights' = weights'} u w ran = go (stop-judged cs bk m)

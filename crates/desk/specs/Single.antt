@@ -17,8 +17,8 @@ use Rattle.theory_sound.proofs.Accepted.{accepted-sound}
 use Rattle.theory_codes.specs.Tables.{tables}
 use Rattle.theory_passes.specs.Bounds.{ByteDelays}
 use Rattle.file_lookup.specs.declared.Sizes.{Sizes}
-use Rattle.file_lookup.specs.declared.Files.{Files}
-use Rattle.file_lookup.specs.declared.Files.TheVariants as told
+use Rattle.file_lookup.specs.Told.{Files}
+use Rattle.file_lookup.specs.Told.Files.{Sound as SoundFiles, Unsound as UnsoundFiles}
 use Rattle.file_lookup.specs.Answers.{sizes_of, files_of}
 use Rattle.file_lookup.specs.Laws.{sound_unsound}
 use Rattle.file_arguments.specs.Arguments.{for_single}
@@ -67,7 +67,7 @@ module _ (cs bk x : List ℕ) (k : ℕ) where
         go (stopped r h q) = subst Tells (sym (e ∙ ap files_of q)) h
         go (goes C h c q) = subst Tells (sym (e ∙ ap files_of q)) tt
 
-    pub single-refused : {n i p : ℕ} {a : Answer} → f ≡ told.Unsound n i p → a ≡ files_answer f → a ≡ single_answer (single_run cs bk x k)
+    pub single-refused : {n i p : ℕ} {a : Answer} → f ≡ UnsoundFiles n i p → a ≡ files_answer f → a ≡ single_answer (single_run cs bk x k)
     single-refused {a = a} u w = go single-judged
       where
         go : Judged cs bk (Chosen x k) (for_single cs bk x k) → a ≡ single_answer (single_run cs bk x k)
@@ -83,7 +83,7 @@ module _ (cs bk x : List ℕ) (k : ℕ) where
       pub chosen : Chosen x k of
       pub told_as : for_single cs bk x k ≡ answer of
 
-    pub single-ready : {s : Sizes} → f ≡ told.Sound s → Ready s
+    pub single-ready : {s : Sizes} → f ≡ SoundFiles s → Ready s
     single-ready {s} u = go single-judged
       where
         go : Judged cs bk (Chosen x k) (for_single cs bk x k) → Ready s

@@ -1,5 +1,6 @@
 // The planning desk's calls for C, declared in include/lampreysong.h: one export for each call of crate desk, with the same clause. A slice is handed over as its
 // start and its length.
+// Rattle makes of a crate a library or what C links, not both, so each call of desk has an export of its own here (the C interface).
 #![tactic(auto)]
 
 ghost use Rattle.desk.specs.Answers.{SingleGives, RunGives, ListingGives, FiguresGives, PlainGives, PartGives, FieldGives};

@@ -1,5 +1,5 @@
 -- The run after the files and the arguments, refused or laid into memory. Each law goes by the cases of a result. Assumes nothing.
-use Rattle.std.specs.Prelude.{◌≡◌, List, [], ℕ, ◌≤◌, length}
+use Rattle.std.specs.Prelude.{◌≡◌, List, [], Option, None, Some, ℕ, ◌≤◌, length}
 use Rattle.std.proofs.Common.{sym, ap, ◌∙◌, subst, arith}
 use Rattle.rules.specs.Refusals.{nowhere, Result, refuse, then, answer_unless}
 use Rattle.rules.specs.Refusals.Result.{refused, answer}
@@ -7,8 +7,8 @@ use Rattle.rules.specs.Files.{Case}
 use Rattle.rules.specs.Joint.{joint}
 use Rattle.rules.specs.Calls.{Run, run_to, filled}
 use Rattle.file_lookup.specs.declared.Sizes.{Sizes}
-use Rattle.file_lookup.specs.declared.Files.{Files}
-use Rattle.file_lookup.specs.declared.Files.TheVariants.{Sound, Unsound}
+use Rattle.file_lookup.specs.Told.{Files}
+use Rattle.file_lookup.specs.Told.Files.{Sound, Unsound}
 use Rattle.out_images.specs.Rows.{Held}
 use Rattle.laying.specs.declared.Answer.{Answer}
 use Rattle.laying.specs.Answers.{refused_with, answered, answer_of}
@@ -24,12 +24,12 @@ runs : (cs bk : List ℕ) (m : ℕ) {f : Files} {s : Sizes} → f ≡ Sound s �
 runs cs bk m e b = ap (run_of cs bk m) e ∙ ap (λ (R : Result Case). then R (run_to m)) b.accepted
 
 -- an answered run has few entries
-pub ran-few : (C : Case) (m : ℕ) {r : ℕ} {list ws tables : List ℕ} → Ran C m r list ws tables → (r ≡ 1025 → ⊥) → r ≤ 1024
-ran-few C m {r} {list} {ws} ran fits = go ran.came
+pub ran-few : (C : Case) (m : ℕ) {r : Option ℕ} {n : ℕ} {list ws tables : List ℕ} → Ran C m r list ws tables → r ≡ Some n → n ≤ 1024
+ran-few C m {r} {n} {list} {ws} ran e = go ran.came
   where
-    go : Came C m r list ws → r ≤ 1024
-    go (over met h) = absurd (fits h)
-    go (stands met h few held weighed) = few
+    go : Came C m r list ws → n ≤ 1024
+    go (over met h) = absurd (cc (sym h ∙ e))
+    go (stands {n = l} met h long few held weighed) = let same : l ≡ n = cc (sym h ∙ e) in omega arith
 
 module _ (cs bk : List ℕ) (m : ℕ) {f : Files} {rows weights : List ℕ} {a : Answer} {tables ws rows' weights' : List ℕ} where
   -- the files or the arguments are refused
@@ -45,7 +45,7 @@ module _ (cs bk : List ℕ) (m : ℕ) {f : Files} {rows weights : List ℕ} {a :
 
   module _ {s : Sizes} (e : f ≡ Sound s) (b : Begins cs bk m s) where
     -- the run meets refusal 12
-    pub laid-over : {r : ℕ} {list : List ℕ} → Ran b.of m r list ws tables → r ≡ 1025 → a ≡ refused_with (record { number = 12; file = 0; place = 0 })
+    pub laid-over : {r : Option ℕ} {list : List ℕ} → Ran b.of m r list ws tables → r ≡ None → a ≡ refused_with (record { number = 12; file = 0; place = 0 })
         → rows' ≡ filled 16384 [] rows → weights' ≡ filled 40320 [] weights → Laid (run_of cs bk m f) rows weights a tables ws rows' weights'
     laid-over {r} {list} ran full q z w = go ran.came
       where
@@ -57,21 +57,22 @@ module _ (cs bk : List ℕ) (m : ℕ) {f : Files} {rows weights : List ℕ} {a :
               weights_are = w ∙ sym (ap (λ (W : Result Run). weights_after W weights) U);
               words = subst (λ (W : Result Run). InWords W tables ws) (sym U) (omega arith);
             }
-        go (stands met h few held weighed) = absurd (omega arith)
+        go (stands met h long few held weighed) = absurd (cc (sym h ∙ full))
 
     -- the run is answered
-    pub laid-stands : {r : ℕ} {list : List ℕ} → Ran b.of m r list ws tables → (r ≡ 1025 → ⊥) → a ≡ answered r
-        → Filled r s.trains list ws rows weights rows' weights' → Laid (run_of cs bk m f) rows weights a tables ws rows' weights'
-    laid-stands {r} {list} ran fits q fills = go ran.came
+    pub laid-stands : {r : Option ℕ} {n : ℕ} {list : List ℕ} → Ran b.of m r list ws tables → r ≡ Some n → a ≡ answered n
+        → Filled n s.trains list ws rows weights rows' weights' → Laid (run_of cs bk m f) rows weights a tables ws rows' weights'
+    laid-stands {r} {n} {list} ran some q fills = go ran.came
       where
         go : Came b.of m r list ws → Laid (run_of cs bk m f) rows weights a tables ws rows' weights'
-        go (over met h) = absurd (fits h)
-        go (stands met h few held weighed) =
+        go (over met h) = absurd (cc (sym h ∙ some))
+        go (stands {n = l} met h long few held weighed) =
+            let same : l ≡ n = cc (sym h ∙ some) in
             let u : Run = record { of = b.of; state = joint b.of m } in
             let U : run_of cs bk m f ≡ answer u = runs cs bk m e b ∙ ap (λ (n : ℕ). answer_unless n nowhere u) met in
             let trains : length b.of.trains ≡ s.trains = sym (ap (λ (z : Sizes). z.trains) b.sizes) in
-            let z = fills u h (subst (λ (n : ℕ). Held n (joint b.of m).list list) trains held) weighed in record {
-              result = q ∙ ap answered (sym h) ∙ sym (ap (λ (W : Result Run). answer_of (entries W)) U);
+            let z = fills u (long ∙ same) (subst (λ (n : ℕ). Held n (joint b.of m).list list) trains held) weighed in record {
+              result = q ∙ ap answered (sym (long ∙ same)) ∙ sym (ap (λ (W : Result Run). answer_of (entries W)) U);
               rows_are = z.0 ∙ sym (ap (λ (W : Result Run). rows_after W rows) U);
               weights_are = z.1 ∙ sym (ap (λ (W : Result Run). weights_after W weights) U);
               words = subst (λ (W : Result Run). InWords W tables ws) (sym U) (weighed, ran.looked);

@@ -1,6 +1,6 @@
 -- The joint run in code, in the words of the steps: refusal 12, or rows that hold the list and words that hold the weights.
 -- A row's words are the same in the run and in its image, and each entry of the list is bounded. Assumes nothing.
-use Rattle.std.specs.Prelude.{◌≡◌, refl, Bool, true, false, cond, ◌||◌, List, [], ◌∷◌, ◌++◌, map, ℕ, suc, ◌*◌, ◌/◌, ◌≤◌, ◌<◌, length, get_or, take}
+use Rattle.std.specs.Prelude.{◌≡◌, refl, Bool, true, false, cond, ◌||◌, List, [], ◌∷◌, ◌++◌, map, ℕ, suc, ◌*◌, ◌/◌, ◌≤◌, ◌<◌, length, get_or, take, Option, None, Some}
 use Rattle.std.proofs.Common.{sym, ap, ◌∙◌, subst, arith}
 use Rattle.std.proofs.lemmas.List.{take-append-le}
 use Rattle.rules.specs.Lists.{each, any, below}
@@ -65,8 +65,8 @@ module _ (C : Case) (sound : Sound C) where
         (subst (λ (s : State Entry). Every (λ r. Bounded C r.mark) s.list) (sym (joint-passes C sound m)) (joint-bounded C sound bytes m within)))
 
     -- what the run in code answers, with its rows at the start of the lent list
-    run-came : {w end r : ℕ} (rows list rest ws : List ℕ) → joints.Answer C m w rows ws → list ≡ rows ++ rest → length rows ≡ end → end ≤ 2050 → length ws ≡ 5760
-        → (w ≡ end → r ≡ 1025) → ((w ≡ end → ⊥) → r ≡ w / 2) → Came C m r list ws
+    run-came : {w end : ℕ} {r : Option ℕ} (rows list rest ws : List ℕ) → joints.Answer C m w rows ws → list ≡ rows ++ rest → length rows ≡ end → end ≤ 2050 → length ws ≡ 5760
+        → (w ≡ end → r ≡ None) → ((w ≡ end → ⊥) → r ≡ Some (w / 2)) → Came C m r list ws
     run-came {w} {end} {r} rows list rest ws a e n few long full fits =
         go (passes C.head.room (first_list C) || any (λ n. passes C.head.room (joint C n).list) (below (suc m))) (room-minutes C m)
       where
@@ -75,8 +75,8 @@ module _ (C : Case) (sound : Sound C) where
         go false q =
             let less : w < length rows = a.less q in
             let count : w ≡ length (joint C m).list * 2 = a.count q in
-            let half : r ≡ w / 2 = fits (λ z. omega arith) in
-            stands q (omega arith) (omega (arith, list-fits C m q m (omega arith), sound.in_room))
+            let half : r ≡ Some (w / 2) = fits (λ z. omega arith) in
+            stands q half (omega arith) (omega (arith, list-fits C m q m (omega arith), sound.in_room))
             (record {
               words =
                   ap (λ (l : List ℕ). take (length (joint C m).list * 2) l) e
@@ -106,8 +106,8 @@ module _ (cs bk : List ℕ) (m : ℕ) {s : Sizes} (b : Begins cs bk m s) (tb : L
   pub ways_tables : Ways tb
   ways_tables = subst Ways (sym looked) (tables_ways b.of begun-sound)
 
-  pub run_ran : Bytes cs → Bytes bk → {n w end r : ℕ} (rows rest ws : List ℕ) → joints.Answers tb m n w rows ws → n ≡ 5760 → length rows ≡ end → end ≤ 2050 → length ws ≡ 5760
-      → (w ≡ end → r ≡ 1025) → ((w ≡ end → ⊥) → r ≡ w / 2) → (C : Case) → files cs bk ≡ answer C → Ran C m r (rows ++ rest) ws tb
+  pub run_ran : Bytes cs → Bytes bk → {n w end : ℕ} {r : Option ℕ} (rows rest ws : List ℕ) → joints.Answers tb m n w rows ws → n ≡ 5760 → length rows ≡ end → end ≤ 2050 → length ws ≡ 5760
+      → (w ≡ end → r ≡ None) → ((w ≡ end → ⊥) → r ≡ Some (w / 2)) → (C : Case) → files cs bk ≡ answer C → Ran C m r (rows ++ rest) ws tb
   run_ran p q {n} {w} {end} {r} rows rest ws a size len few long full fits C e =
       let same : b.of ≡ C = cc (sym b.accepted ∙ e) in
       let bytes = byte-delays cs bk b.of p q b.accepted in

@@ -1,6 +1,6 @@
 -- What stands between the steps of a run into lent memory: the files and arguments, the run on words, and the memory that is filled.
 -- Assumes nothing: these are definitions.
-use Rattle.std.specs.Prelude.{◌≡◌, List, [], ℕ, ◌≤◌, ◌<◌, length}
+use Rattle.std.specs.Prelude.{◌≡◌, List, [], Option, None, Some, ℕ, ◌≤◌, ◌<◌, length}
 use Rattle.rules.specs.Lists.{each}
 use Rattle.rules.specs.Refusals.{Result, refuse, then}
 use Rattle.rules.specs.Refusals.Result.{refused, answer}
@@ -9,8 +9,8 @@ use Rattle.rules.specs.Joint.{joint}
 use Rattle.rules.specs.Calls.{Run, run_to, row_image, weights_image, filled}
 use Rattle.theory_codes.specs.Tables as codes
 use Rattle.file_lookup.specs.declared.Sizes.{Sizes}
-use Rattle.file_lookup.specs.declared.Files.{Files}
-use Rattle.file_lookup.specs.declared.Files.TheVariants.{Sound, Unsound}
+use Rattle.file_lookup.specs.Told.{Files}
+use Rattle.file_lookup.specs.Told.Files.{Sound, Unsound}
 use Rattle.file_lookup.specs.Answers.{sizes_of}
 use Rattle.out_images.specs.Rows.{Held, Weighed}
 use Rattle.laying.specs.declared.Answer.{Answer}
@@ -54,12 +54,12 @@ Tells (Unsound n f p) = Fits n f p
 -- ---- the run on words
 
 -- the run has met refusal 12, or it stands in the words
-pub data Came (C : Case) (m r : ℕ) (list ws : List ℕ) : Type 0 where
-  over : (joint C m).met ≡ 12 → r ≡ 1025 → Came C m r list ws
-  stands : (joint C m).met ≡ 0 → length (joint C m).list ≡ r → r ≤ 1024 → Held (length C.trains) (joint C m).list list
+pub data Came (C : Case) (m : ℕ) (r : Option ℕ) (list ws : List ℕ) : Type 0 where
+  over : (joint C m).met ≡ 12 → r ≡ None → Came C m r list ws
+  stands : {n : ℕ} → (joint C m).met ≡ 0 → r ≡ Some n → length (joint C m).list ≡ n → n ≤ 1024 → Held (length C.trains) (joint C m).list list
       → Weighed C (joint C m).arrived ws → Came C m r list ws
 
-pub record Ran (C : Case) (m r : ℕ) (list ws tables : List ℕ) : Type 0 where
+pub record Ran (C : Case) (m : ℕ) (r : Option ℕ) (list ws tables : List ℕ) : Type 0 where
   pub looked : tables ≡ codes.tables C
   pub came : Came C m r list ws
 

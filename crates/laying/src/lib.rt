@@ -5,13 +5,16 @@ ghost use Rattle.std.specs.Prelude.{◌≡◌, [], ◌≤◌, length, replicate}
 ghost use Rattle.rules.specs.Refusals.Result.{answer};
 ghost use Rattle.rules.specs.Files as rulesFiles;
 ghost use Rattle.rules.specs.Calls.{filled};
+ghost use Rattle.file_lookup.specs.Told.{told};
 ghost use Rattle.laying.specs.Answers.{refused_with, answered};
-ghost use Rattle.laying.specs.Steps.{Fits, Begins, Start, run_of, Tells, files_answer, Ran, Filled, Laid};
+ghost use Rattle.laying.specs.Told.{refusal_of, InReach, answer_to, Reached};
+ghost use Rattle.laying.specs.Steps.{Begins, Start, run_of, Ran, Filled, Laid};
 
-use file_fields::refusals;
-use file_lookup::{Files, Sizes};
+use file_fields::refusals::{Fault, Refusal};
+use file_lookup::Sizes;
 
 // What the single run, the run and the listing answer; `refusal` is 0 if the call was answered.
+// C reads it as lampreysong_answer of include/lampreysong.h, so a refusal is a number with two beside it, and no Result.
 #[repr(C)]
 #[derive(Clone, Copy)]
 pub struct Answer {
@@ -21,15 +24,26 @@ pub struct Answer {
     pub value: u64,
 }
 
+// In the tables: how many entries a list may have.
+const ROOM: u64 = 3;
+
+// A run whose list passes its room.
+const NO_ROOM: Refusal = Refusal {
+    fault: Fault::NoRoom,
+    file: 0,
+    place: 0,
+};
+
 // A refusal as an answer.
-pub fn refused(number: usize, file: usize, place: usize) -> Answer
-    requires { Fits number file place }
-    ensures { result ≡ refused_with (record { number = number; file = file; place = place }) }
+// That file and place fit is a clause: it is shown where a reading ends (refused-place), not where each Refusal is built, so no field can say it.
+pub fn refused(refusal: Refusal) -> Answer
+    requires { InReach refusal }
+    ensures { result ≡ refused_with (refusal_of refusal) }
 {
     Answer {
-        refusal: number as u16,
-        file: file as u16,
-        place: place as u32,
+        refusal: refusal.fault.number(),
+        file: refusal.file as u16,
+        place: refusal.place as u32,
         value: 0,
     }
 }
@@ -41,22 +55,24 @@ pub fn answered(value: u64) -> Answer
         refusal: 0,
         file: 0,
         place: 0,
-        value: value,
+        value,
     }
 }
 
-// The refusal of files as an answer.
-pub fn refused_files(f: Files) -> Answer
-    requires { Tells f }
-    ensures { result ≡ files_answer f }
+// What a call comes to, as an answer.
+// No From: the conversion asks that a refusal's numbers fit (Reached), and From asks nothing.
+pub fn answer_to(outcome: Result<u64, Refusal>) -> Answer
+    requires { Reached outcome }
+    ensures { result ≡ answer_to outcome }
 {
-    match f {
-        Files::Sound(_) => answered(0),
-        Files::Unsound(number, file, place) => refused(number, file, place),
+    match outcome {
+        Ok(value) => answered(value),
+        Err(refusal) => refused(refusal),
     }
 }
 
 // Sets the required rows and weights to zero.
+// Rows and weights stay two parameters, as the C interface lends them: a struct of the two slices would be taken apart again at each use.
 fn clear(rows: &mut [u8], weights: &mut [u8])
     requires { (16384 ≤ length rows.old) × (40320 ≤ length weights.old) }
     ensures { (rows.new ≡ filled 16384 [] rows.old) × (weights.new ≡ filled 40320 [] weights.old) }
@@ -66,63 +82,75 @@ fn clear(rows: &mut [u8], weights: &mut [u8])
 }
 
 // Fills the required rows with the first n rows of the list, and the required weights.
-fn fill(list: &[u64], n: usize, trains: usize, ws: &[u64], rows: &mut [u8], weights: &mut [u8])
-    requires { (n ≤ 1024) × (2048 ≤ length list.now) × (5040 ≤ length ws.now) × (16384 ≤ length rows.old) × (40320 ≤ length weights.old) }
+fn fill(
+    list: &[u64; 2050],
+    n: usize,
+    trains: usize,
+    ws: &[u64; 5760],
+    rows: &mut [u8],
+    weights: &mut [u8],
+)
+    requires { (n ≤ 1024) × (16384 ≤ length rows.old) × (40320 ≤ length weights.old) }
     ensures { Filled n trains list.now ws.now rows.old weights.old rows.new weights.new }
 {
-    out_rows::put_rows(list, n, trains as u64, rows);
+    out_rows::put_rows(&list[..n * 2], trains, rows);
     out_images::put_weights(ws, weights);
 }
 
-// The joint run of an accepted case to a stop minute: the number of its entries, or 1,025 for refusal 12.
+// The joint run of an accepted case to a stop minute: the number of its entries, or none where they pass the room.
 fn run_to<'a>(
     case: &'a [u8],
     book: &'a [u8],
-    s: Sizes,
+    sizes: Sizes,
     stop: usize,
-    tables: &mut [u64],
-    list: &mut [u64],
-    ws: &mut [u64],
-) -> usize
-    requires begins { Begins case.now book.now stop s }
-    requires tables_len { (length tables.old ≡ 2352) × (length list.old ≡ 2050) × (length ws.old ≡ 5760) × (ws.old ≡ replicate 5760 0) }
+    tables: &mut [u64; 2352],
+    list: &mut [u64; 2050],
+    ws: &mut [u64; 5760],
+) -> Option<usize>
+    requires begins { Begins case.now book.now stop sizes }
+    requires none { ws.old ≡ replicate 5760 0 }
     ensures { (C : rulesFiles.Case) → rulesFiles.files case.now book.now ≡ answer C → Ran C stop result list.new ws.new tables.new }
 {
-    file_plan::fill(case, book, s, tables);
-    let room = words::at(tables, 3) as usize;
+    file_plan::fill(case, book, sizes, tables);
+    let room = words::at(tables, ROOM) as usize;
     let end = room * 2 + 2;
     let w = joint::run(tables, &mut list[..end], ws, stop as u64);
     if w == end {
-        return 1025;
+        return None;
     }
-    w / 2
+    Some(w / 2)
 }
 
-// The run after the files and the arguments: refused, or filled into rows and weights.
+// The run after the files and the arguments: refused, or filled into rows and weights, and the number of its entries.
+// Case and book stay two slices, as DECISIONS.md has them of file_lookup, and the calls of the C interface hand them over.
 pub fn lay<'a>(
     case: &'a [u8],
     book: &'a [u8],
-    f: Files,
+    files: Result<Sizes, Refusal>,
     stop: usize,
-    tables: &mut [u64],
-    ws: &mut [u64],
+    tables: &mut [u64; 2352],
+    ws: &mut [u64; 5760],
     rows: &mut [u8],
     weights: &mut [u8],
-) -> Answer
-    requires start { Start case.now book.now stop f }
-    requires tables_len { (length tables.old ≡ 2352) × (length ws.old ≡ 5760) × (16384 ≤ length rows.old) × (40320 ≤ length weights.old) × (ws.old ≡ replicate 5760 0) }
-    ensures { Laid (run_of case.now book.now stop f) rows.old weights.old result tables.new ws.new rows.new weights.new }
+) -> Result<u64, Refusal>
+    requires start { Start case.now book.now stop (told files) }
+    requires long { (16384 ≤ length rows.old) × (40320 ≤ length weights.old) }
+    requires none { ws.old ≡ replicate 5760 0 }
+    ensures laid { Laid (run_of case.now book.now stop (told files)) rows.old weights.old (answer_to result) tables.new ws.new rows.new weights.new }
+    ensures reached { Reached result }
 {
-    let Files::Sound(s) = f else {
-        clear(rows, weights);
-        return refused_files(f);
+    let sizes = match files {
+        Ok(sizes) => sizes,
+        Err(refusal) => {
+            clear(rows, weights);
+            return Err(refusal);
+        }
     };
-    let mut list = [0u64; 2050];
-    let n = run_to(case, book, s, stop, tables, &mut list, ws);
-    if n == 1025 {
+    let mut list = [0; 2050];
+    let Some(n) = run_to(case, book, sizes, stop, tables, &mut list, ws) else {
         clear(rows, weights);
-        return refused(refusals::NO_ROOM, 0, 0);
-    }
-    fill(&list, n, s.trains, ws, rows, weights);
-    answered(n as u64)
+        return Err(NO_ROOM);
+    };
+    fill(&list, n, sizes.trains, ws, rows, weights);
+    Ok(n as u64)
 }

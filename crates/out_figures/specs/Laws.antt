@@ -10,6 +10,7 @@ use Rattle.std.proofs.Math.Nat.{mul-le-mul_right}
 use native.Mathlib.Omega.{arith}
 use Rattle.std.proofs.Math.Dec.{leb, ltb}
 use Rattle.std.proofs.lemmas.Bool.{lt-leb}
+use Rattle.std.specs.Int.{from_bool}
 use Rattle.rules.specs.Lists.{tick, sum, span, below}
 use Rattle.rules.specs.Files.{Case}
 use Rattle.rules.specs.Turns.{Arrival}
@@ -19,7 +20,7 @@ use Rattle.rules.specs.Figures.{plan, weight_in, on_time_of, late, lateness_sum,
 use Rattle.rules.specs.Figures.Punctuality.{never, always, share}
 use Rattle.words.specs.Spans.{onward, onward-all, onward-next, onward-end}
 use Rattle.theory_lists.specs.Sums.{sum-keep, sum_plus, sum_same, sum-times}
-use Rattle.out_figures.specs.Sums.{word_of, arrived_weight, on_time_weight, late_weight, lateness, judgement, shares_in, figures_in}
+use Rattle.out_figures.specs.Sums.{word_of, arrived_weight, on_time_weight, late_weight, lateness, weight_times, judgement, shares_in, figures_in}
 use Rattle.out_figures.specs.Answers.{case_of, punctuality_answer, Holds}
 
 -- ---- punctuality
@@ -84,6 +85,11 @@ module _ (ws : List ℕ) (k end t : ℕ) where
   pub late_by_at-out : t ≤ end → late_by_at ws k end t ≡ 0
   late_by_at-out h = let e : t - end ≡ 0 = omega arith in ap (λ (n : ℕ). n * word_of ws k t) e ∙ zero-mul (word_of ws k t)
 
+-- 1 if it is so, 0 if not
+once : (b : Bool) → from_bool b ≡ tick b
+once true = refl
+once false = refl
+
 module _ (ws : List ℕ) (k last : ℕ) where
   pub on_time_weight-sum : (end : ℕ) → on_time_weight ws k last end ≡ sum (on_time_at ws k end) (below (suc last))
   unfolding on_time_weight
@@ -118,6 +124,23 @@ module _ (ws : List ℕ) (k last : ℕ) where
         sum-times 719 (word_of ws k) (below (suc last)),
         span-most (late_by_at ws k plan) (λ t. 719 * word_of ws k t) (suc last) 0 (λ t l. mul-le-mul_right (word_of ws k t) (omega arith)),
       )
+
+  -- the three as weights that count so many times
+  pub on_time-times : (end : ℕ) → weight_times ws k last (λ t. from_bool (leb t end)) ≡ on_time_weight ws k last end
+  unfolding weight_times
+  on_time-times end =
+      sum_same (λ t. from_bool (leb t end) * word_of ws k t) (on_time_at ws k end) (λ t. ap (λ (n : ℕ). n * word_of ws k t) (once (leb t end))) (below (suc last))
+      ∙ sym (on_time_weight-sum end)
+
+  pub late-times : (end : ℕ) → weight_times ws k last (λ t. from_bool (ltb end t)) ≡ late_weight ws k last end
+  unfolding weight_times
+  late-times end =
+      sum_same (λ t. from_bool (ltb end t) * word_of ws k t) (late_at ws k end) (λ t. ap (λ (n : ℕ). n * word_of ws k t) (once (ltb end t))) (below (suc last))
+      ∙ sym (late_weight-sum end)
+
+  pub lateness-times : (plan : ℕ) → weight_times ws k last (λ t. t - plan) ≡ lateness ws k last plan
+  unfolding weight_times lateness
+  lateness-times plan = refl
 
 -- ---- the figures of a case
 

@@ -29,6 +29,10 @@ late_weight ws k last end = weight_where ws k (λ t. ltb end t) (below (suc last
 unfoldable pub lateness : List ℕ → ℕ → ℕ → ℕ → ℕ
 lateness ws k last plan = sum (λ t. (t - plan) * word_of ws k t) (below (suc last))
 
+-- the weights of train k up to the last minute, that of minute t as many times as f says
+unfoldable pub weight_times : List ℕ → ℕ → ℕ → (ℕ → ℕ) → ℕ
+weight_times ws k last f = sum (λ t. f t * word_of ws k t) (below (suc last))
+
 -- never where no weight is on time, always where all is, and otherwise the share
 unfoldable pub judgement : ℕ → ℕ → Punctuality
 judgement w total = cond (eqb w 0) never (cond (eqb w total) always (share (double w total)))

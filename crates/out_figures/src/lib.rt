@@ -2,16 +2,17 @@
 // Weights are words: that of train k in minute t stands at k * 720 + t.
 #![tactic(auto)]
 
-ghost use Rattle.std.specs.Prelude.{◌≡◌, List, ◌+◌, ◌*◌, ◌≤◌, ◌<◌};
+ghost use Rattle.std.specs.Prelude.{◌≡◌, List, ℕ, ◌+◌, ◌≤◌};
 ghost use Rattle.rules.specs.Files.{Case};
 ghost use Rattle.rules.specs.Turns.{Arrival};
 ghost use Rattle.rules.specs.Joint.{Entry};
 ghost use Rattle.rules.specs.Figures.{figures, double};
-ghost use Rattle.out_figures.specs.Sums.{on_time_weight, late_weight, lateness, judgement, shares_in, figures_in, Weighed};
+ghost use Rattle.out_figures.specs.Sums.{weight_times, judgement, shares_in, figures_in, Weighed};
 ghost use Rattle.out_figures.specs.Answers.{punctuality_answer, shares_answer, figures_answer, no_figures, Holds};
 
 // Never, always, or a share of the weight; refused where the call was.
-#[derive(Clone, Copy)]
+// DECISIONS.md has these four cases, which C reads as 0 to 3 (FORMATS.md): so it is no Option of three.
+#[derive(Clone, Copy, Debug, PartialEq)]
 pub enum Punctuality {
     Refused,
     Never,
@@ -20,7 +21,7 @@ pub enum Punctuality {
 }
 
 // The shares of the weight that is on time, late, and not arrived by the last minute.
-#[derive(Clone, Copy)]
+#[derive(Clone, Copy, Debug, PartialEq)]
 pub struct Shares {
     pub on_time: f64,
     pub late: f64,
@@ -28,7 +29,7 @@ pub struct Shares {
 }
 
 // The figures of one train; the mean lateness of the arrived is `sum` by `weight`.
-#[derive(Clone, Copy)]
+#[derive(Clone, Copy, Debug, PartialEq)]
 pub struct Figures {
     pub punctuality: Punctuality,
     pub shares: Shares,
@@ -40,20 +41,20 @@ pub struct Figures {
 pub fn refused() -> Figures
     ensures { result ≡ no_figures }
 {
-    let none = Shares {
-        on_time: 0.0,
-        late: 0.0,
-        not_arrived: 0.0,
-    };
     Figures {
         punctuality: Punctuality::Refused,
-        shares: none,
+        shares: Shares {
+            on_time: 0.0,
+            late: 0.0,
+            not_arrived: 0.0,
+        },
         sum: 0,
         weight: 0,
     }
 }
 
 // One division of two whole numbers, both exact as doubles.
+// 10^14 stays a clause: 01 has one division of two whole numbers, docs name share, and a type round a number would ask more.
 pub fn share(part: u64, whole: u64) -> f64
     requires { (part ≤ 100000000000000) × (whole ≤ 100000000000000) }
     ensures { result ≡ double part whole }
@@ -61,50 +62,16 @@ pub fn share(part: u64, whole: u64) -> f64
     (part as f64) / (whole as f64)
 }
 
-// The weight of train k that arrives in the minutes up to `end`.
-fn on_time(weights: &[u64], k: u64, last: u64, end: u64) -> u64
-    requires { Weighed weights.now k last 100000000000000 }
-    ensures { result ≡ on_time_weight weights.now k last end }
+// The weights of train k, each as many times as `times` says of its minute, added up.
+fn sum_of<F: Fn(u64) -> u64>(weights: &[u64], k: u64, last: u64, times: F) -> u64
+    requires weighed { Weighed weights.now k last 100000000000000 }
+    requires callable { F.IsAlwaysCallable times }
+    requires most { (t n : ℕ) → t ≤ last → F.post times t n → n ≤ 719 }
+    ensures { (f : ℕ → ℕ) → ((t n : ℕ) → t ≤ last → F.post times t n → n ≡ f t) → result ≡ weight_times weights.now k last f }
 {
-    let mut sum: u64 = 0;
-    let mut t: u64 = 0;
-    while t <= last {
-        if t <= end {
-            sum += words::at(weights, k * 720 + t);
-        }
-        t += 1;
-    }
-    sum
-}
-
-// The weight of train k that arrives in the minutes after `end`.
-fn late(weights: &[u64], k: u64, last: u64, end: u64) -> u64
-    requires { Weighed weights.now k last 100000000000000 }
-    ensures { result ≡ late_weight weights.now k last end }
-{
-    let mut sum: u64 = 0;
-    let mut t: u64 = 0;
-    while t <= last {
-        if end < t {
-            sum += words::at(weights, k * 720 + t);
-        }
-        t += 1;
-    }
-    sum
-}
-
-// The minutes of train k after plan, each by its weight.
-fn late_by(weights: &[u64], k: u64, last: u64, plan: u64) -> u64
-    requires { Weighed weights.now k last 100000000000000 }
-    ensures { result ≡ lateness weights.now k last plan }
-{
-    let mut sum: u64 = 0;
-    let mut t: u64 = 0;
-    while t <= last {
-        if plan < t {
-            sum += (t - plan) * words::at(weights, k * 720 + t);
-        }
-        t += 1;
+    let mut sum = 0;
+    for t in 0..last + 1 {
+        sum += times(t) * words::at(weights, k * 720 + t);
     }
     sum
 }
@@ -128,13 +95,10 @@ fn shares_of(on: u64, after: u64, total: u64) -> Shares
     requires { (on + after ≤ total) × (total ≤ 100000000000000) }
     ensures { result ≡ shares_answer (shares_in on after total) }
 {
-    let a = share(on, total);
-    let b = share(after, total);
-    let c = share(total - (on + after), total);
     Shares {
-        on_time: a,
-        late: b,
-        not_arrived: c,
+        on_time: share(on, total),
+        late: share(after, total),
+        not_arrived: share(total - (on + after), total),
     }
 }
 
@@ -144,17 +108,13 @@ pub fn figures_of(weights: &[u64], k: u64, plan: u64, last: u64, total: u64, lim
     ensures words { result ≡ figures_answer (figures_in weights.now k plan last total limit) }
     ensures case { (C : Case) (arrived : List (Arrival Entry)) → Holds C arrived weights.now k plan last total → result ≡ figures_answer (figures C arrived k limit) }
 {
-    let end = plan + limit as u64;
-    let on = on_time(weights, k, last, end);
-    let after = late(weights, k, last, end);
-    let sum = late_by(weights, k, last, plan);
-    let p = judged(on, total);
-    let s = shares_of(on, after, total);
-    let arrived = on + after;
+    let end = plan + u64::from(limit);
+    let on = sum_of(weights, k, last, |t| u64::from(t <= end));
+    let after = sum_of(weights, k, last, |t| u64::from(t > end));
     Figures {
-        punctuality: p,
-        shares: s,
-        sum: sum,
-        weight: arrived,
+        punctuality: judged(on, total),
+        shares: shares_of(on, after, total),
+        sum: sum_of(weights, k, last, |t| t.saturating_sub(plan)),
+        weight: on + after,
     }
 }

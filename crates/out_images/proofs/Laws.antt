@@ -3,11 +3,16 @@
 use mathlib.Core.Path.{◌≡◌, refl, sym, ap, ap₂, ◌∙◌}
 use mathlib.Core.Bool.{Bool, true, false, cond}
 use mathlib.Core.List.{List, [], ◌∷◌, ◌++◌}
-use Prim.Native.Nat.{ℕ, zero, suc, ◌+◌, ◌-◌, ◌*◌, ◌^◌, ◌≤◌, ◌<◌}
+use Prim.Native.Nat.{ℕ, zero, suc, ◌+◌, ◌-◌, ◌*◌, ◌^◌, min, ◌≤◌, ◌<◌}
 use native.Mathlib.Nat.{mul_assoc, pow-suc, pow-succ', pow-le-pow_right}
 use native.Mathlib.Omega.{arith}
 use lib.ListN.{length, get_or, take, drop, set, length-append, length-drop}
-use lib.Seq.{sets, sets-eq, drop_at, get_or-drop}
+use lib.Seq.{sets, sets-eq, drop_at}
+use Rattle.std.proofs.Math.Decide.{dec_le}
+use borrow.Rule.Slice.PartMut.{put_mid}
+use Rattle.std.proofs.Common.{append_assoc}
+use Rattle.std.proofs.lemmas.Slice.{put_mid-paste}
+use Rattle.std.proofs.lemmas.List.Edits.{paste_all}
 use lib.Dec.{eqb}
 use borrow.Author.Tests.{lt-ltb, le-ltb}
 use Rattle.rules.specs.Lists.{each, below}
@@ -31,29 +36,28 @@ marks_block zero h = refl
 marks_block (suc zero) h = refl
 marks_block (suc (suc b)) h = absurd (omega arith)
 
-pub number-none : (b : Bool) → 0 ≡ number_of (cond b gone outside)
-number-none true = refl
-number-none false = refl
-
--- eight stores, one after the other, of what eight numbers are
-pub sets_eight : (l : List ℕ) (i : ℕ) {a b c d e f g h A B C D E F G H : ℕ} → a ≡ A → b ≡ B → c ≡ C → d ≡ D → e ≡ E → f ≡ F → g ≡ G → h ≡ H
-    → set (set (set (set (set (set (set (set l i a) (i + 1) b) (i + 2) c) (i + 3) d) (i + 4) e) (i + 5) f) (i + 6) g) (i + 7) h
-    ≡ sets l i (A ∷ B ∷ C ∷ D ∷ E ∷ F ∷ G ∷ H ∷ [])
-sets_eight l i p q r s t u v w =
-    let e1 : i + 1 ≡ suc i = omega arith in
-    let e2 : i + 2 ≡ suc (suc i) = omega arith in
-    let e3 : i + 3 ≡ suc (suc (suc i)) = omega arith in
-    let e4 : i + 4 ≡ suc (suc (suc (suc i))) = omega arith in
-    let e5 : i + 5 ≡ suc (suc (suc (suc (suc i)))) = omega arith in
-    let e6 : i + 6 ≡ suc (suc (suc (suc (suc (suc i))))) = omega arith in
-    let e7 : i + 7 ≡ suc (suc (suc (suc (suc (suc (suc i)))))) = omega arith in
-    rw (e1, e2, e3, e4, e5, e6, e7, p, q, r, s, t, u, v, w)
+-- a part of the list that is written over
+pub part_sets : (i e : ℕ) (l part bs : List ℕ) → part ≡ bs → i + length bs ≡ e → e ≤ length l → put_mid i (e - i) l part ≡ sets l i bs
+part_sets i e l part bs same wide fits =
+    let width : length bs ≡ e - i = omega arith in
+    put_mid-paste i (e - i) l part bs (length bs) same width refl
+    ∙ paste_all l i bs (length bs) refl
+    ∙ sym (append_assoc (take i l) bs (drop (i + length bs) l))
+    ∙ sym (sets-eq bs l i (omega arith))
 
 -- ---- a row
 
 pub row-parts : (l : List ℕ) (at n s c : ℕ) → sets (sets l at (mark_bytes s)) (at + 8) (cover_bytes n c) ≡ sets l at (row_bytes n s c)
 unfolding row_bytes mark_bytes
 row-parts l at n s c = sets-append (mark_bytes s) (cover_bytes n c) l at
+
+pub length-mark : (s : ℕ) → length (mark_bytes s) ≡ 8
+unfolding mark_bytes
+length-mark s = refl
+
+pub length-cover : (n c : ℕ) → length (cover_bytes n c) ≡ 8
+unfolding cover_bytes
+length-cover n c = refl
 
 pub length-row : (n s c : ℕ) → length (row_bytes n s c) ≡ 16
 unfolding row_bytes mark_bytes cover_bytes
@@ -104,37 +108,18 @@ words-filled ws l many long =
 pub words_weigh : (weight : ℕ → ℕ → ℕ) (ws l : List ℕ) → Weighs weight ws → filled 40320 (image_of_words (take 5040 ws)) l ≡ filled 40320 (image_by weight) l
 words_weigh weight ws l h = ap (λ (image : List ℕ). filled 40320 image l) (weights_image_lem weight ws h)
 
--- ---- a word that is read, byte by byte
-
--- one byte more fits
-pub byte_fits : (i x b : ℕ) → i < 8 → x < 256 ^ i → b < 256 → (x * 256 + b < 256 ^ (i + 1)) × (x * 256 + b < 2 ^ 64)
-byte_fits i x b few small byte =
-    let more : 256 ^ (i + 1) ≡ 256 * 256 ^ i = ap (λ (z : ℕ). 256 ^ z) (omega arith) ∙ pow-succ' 256 i in
-    (omega arith, omega (arith, more, pow-le-pow_right {n = 256} (omega arith) {i = i + 1} {j = 8} (omega arith)))
-
-number_more : (l : List ℕ) (b : ℕ) → number_in (l ++ (b ∷ [])) ≡ number_in l * 256 + b
-number_more [] b = omega arith
-number_more (a ∷ l) b =
-    let long : length (l ++ (b ∷ [])) ≡ suc (length l) = omega (arith, length-append l (b ∷ [])) in
-    let high : 256 ^ length (l ++ (b ∷ [])) ≡ 256 ^ length l * 256 = ap (λ (n : ℕ). 256 ^ n) long ∙ pow-suc 256 (length l) in
-    let first : a * 256 ^ length (l ++ (b ∷ [])) ≡ a * 256 ^ length l * 256 = ap (λ (n : ℕ). a * n) high ∙ sym (mul_assoc a (256 ^ length l) 256) in
-    omega (arith, first, number_more l b)
-
--- one byte more of the number from `at` on
-pub word_more : (l : List ℕ) (at i : ℕ) → at + i < length l → number_in (take i (drop at l)) * 256 + get_or l (at + i) 0 ≡ number_in (take (i + 1) (drop at l))
-word_more l at i h =
-    let there : i < length (drop at l) = omega (arith, length-drop at l) in
-    ap (λ (b : ℕ). number_in (take i (drop at l)) * 256 + b) (sym (get_or-drop at l i 0))
-    ∙ sym (number_more (take i (drop at l)) (get_or (drop at l) i 0))
-    ∙ ap number_in (sym (take_more i (drop at l) there))
-
 -- ---- a sum
 
-pub capped-below : (n : ℕ) → n < 2 ^ 64 → n ≡ capped n
-capped-below n h = sym (ap (λ (b : Bool). cond b n (2 ^ 64 - 1)) (lt-ltb n (2 ^ 64) h))
-
-pub capped-past : (n : ℕ) → 2 ^ 64 ≤ n → 2 ^ 64 - 1 ≡ capped n
-capped-past n h = sym (ap (λ (b : Bool). cond b n (2 ^ 64 - 1)) (le-ltb n (2 ^ 64) h))
+pub capped-min : (n : ℕ) → min n (2 ^ 64 - 1) ≡ capped n
+capped-min n = go (dec_le (suc n) (2 ^ 64))
+  where
+    go : Dec (suc n ≤ 2 ^ 64) → min n (2 ^ 64 - 1) ≡ capped n
+    go (yes below) =
+        let least : min n (2 ^ 64 - 1) ≡ n = omega arith in
+        least ∙ sym (ap (λ (b : Bool). cond b n (2 ^ 64 - 1)) (lt-ltb n (2 ^ 64) (omega arith)))
+    go (no past) =
+        let least : min n (2 ^ 64 - 1) ≡ 2 ^ 64 - 1 = omega arith in
+        least ∙ sym (ap (λ (b : Bool). cond b n (2 ^ 64 - 1)) (le-ltb n (2 ^ 64) (omega arith)))
 
 -- ---- sums, one after the other
 

@@ -3,9 +3,9 @@
 use mathlib.Core.Path.{◌≡◌, refl, sym, ap, ◌∙◌}
 use mathlib.Core.Bool.{Bool, true, false, cond}
 use mathlib.Core.List.{List, [], ◌∷◌, ◌++◌, append_assoc}
-use Prim.Native.Nat.{ℕ, zero, suc, ◌+◌, ◌-◌, ◌*◌, ◌/◌, ◌%◌, ◌^◌, ◌≤◌, ◌<◌}
+use Prim.Native.Nat.{ℕ, zero, suc, ◌+◌, ◌-◌, ◌/◌, ◌%◌, ◌^◌, ◌≤◌, ◌<◌}
 use native.Mathlib.Nat.{pow-succ', pow-le-pow_right}
-use native.Mathlib.Numerals.{add-one, sub-one}
+use native.Mathlib.Numerals.{add-one}
 use native.Mathlib.Omega.{arith}
 use lib.ListN.{length, get_or, take}
 use lib.Seq.{take-suc}
@@ -33,11 +33,9 @@ digits_more (suc n) v h = go (ltb v 10) (digits_more n (v / 10) (omega (arith, p
     go true ih = refl
     go false ih = ap (λ (l : List ℕ). l ++ ((48 + v % 10) ∷ [])) ih
 
-pub decimal-one : (v : ℕ) → v < 10 → (48 + v) ∷ [] ≡ decimal v
+pub decimal-one : (v : ℕ) → v < 10 → (48 + v % 10) ∷ [] ≡ decimal v
 unfolding decimal
-decimal-one v h =
-    let same : v ≡ v % 10 = omega arith in
-    simp (lt-ltb v 10 h) (ap (λ (d : ℕ). (48 + d) ∷ []) same)
+decimal-one v h = simp (lt-ltb v 10 h)
 
 pub decimal-more : (v : ℕ) → 10 ≤ v → v < 2 ^ 64 → decimal (v / 10) ++ ((48 + v % 10) ∷ []) ≡ decimal v
 unfolding decimal
@@ -59,7 +57,7 @@ pub minute-some : (k t w : ℕ) → (w ≡ 0 → ⊥) → number_then k 32 ++ nu
 minute-some k t zero h = absurd (h refl)
 minute-some k t (suc w) h = simp append_assoc
 
-pub last-parts : (k rest : ℕ) → number_then k 32 ++ (45 ∷ []) ++ (32 ∷ []) ++ number_then rest 10 ≡ last_line k rest
+pub last-parts : (k rest : ℕ) → number_then k 32 ++ (45 ∷ 32 ∷ []) ++ number_then rest 10 ≡ last_line k rest
 unfolding last_line
 last-parts k rest = simp append_assoc
 
@@ -115,9 +113,5 @@ text-parts whole trains last ws k h e =
 
 -- ---- the whole weight
 
-pub whole-less : (n : ℕ) → (n ≡ 0 → ⊥) → 100 ^ (n - 1) * 100 ≡ 100 ^ n
-whole-less zero h = absurd (h refl)
-whole-less (suc n) h = rw sub-one (omega (arith, pow-succ' 100 n))
-
-pub whole-few : (n : ℕ) → n ≤ 8 → 100 ^ (n - 1) ≤ 100 ^ 7
-whole-few n h = pow-le-pow_right {n = 100} (omega arith) {i = n - 1} {j = 7} (omega arith)
+pub whole-few : (n : ℕ) → n ≤ 8 → 100 ^ n ≤ 100 ^ 8
+whole-few n h = pow-le-pow_right {n = 100} (omega arith) {i = n} {j = 8} (omega arith)

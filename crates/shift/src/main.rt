@@ -4,68 +4,66 @@
 #![tactic(auto)]
 
 ghost use Rattle.std.specs.Prelude.{◌≡◌, length};
-ghost use Rattle.file_input.specs.Reads.{Holds};
+ghost use Rattle.file_input.specs.Reads.{told, Holds};
 ghost use Rattle.shift.specs.Shift.{Prints};
 
-use file_input::Reading;
+use file_input::ReadFailed;
 use std::fs::File;
+use std::io;
 use std::rt::Files;
 
 // The text for a case and a book, at the start of the buffer, and its length.
-fn text_for<'a>(case: &'a [u8], book: &'a [u8], text: &mut [u8]) -> usize
+// The text's length is answered beside the buffer, as `out_listing::write` and `refused_line` do and `Prints` says it.
+fn text_for(case: &[u8], book: &[u8], text: &mut [u8]) -> usize
     requires { length text.old ≡ 32768 }
     ensures { Prints case.now book.now result text.new }
 {
     let mut rows = [0u8; 16384];
     let mut weights = [0u8; 40320];
+    // The desk's call answers the struct that C reads: a refusal's number, 0 where there is none, with the value beside it.
     let a = desk::lampreysong_listing(case, book, &mut rows, &mut weights, text);
-    let refused = a.refusal != 0;
-    if refused {
+    if a.refusal != 0 {
         return out_listing::refused_line(a.refusal as u64, a.file as u64, a.place as u64, text);
     }
     a.value as usize
 }
 
-// The text for the first bytes of two buffers, printed.
-fn print_for<'a, P: Print>(out: &P, case: &'a [u8], book: &'a [u8]) -> bool {
+// The text for a case and a book, printed.
+fn print_for<P: Print>(out: &P, case: &[u8], book: &[u8]) -> io::Result<()> {
     let mut text = [0u8; 32768];
     let n = text_for(case, book, &mut text);
-    out.write_all(&text[..n]).is_ok()
+    out.write_all(&text[..n])
 }
 
 // The book's bytes; none where it can't be opened.
-fn read_book<F: Files>(files: &F, buf: &mut [u8]) -> Reading
-    ensures { Holds result buf.new }
+fn read_book<F: Files>(files: &F, buf: &mut [u8]) -> Result<usize, ReadFailed>
+    ensures { Holds (told result) buf.new }
 {
-    let Ok(mut file) = File::open(files, "types.book") else {
-        return Reading::Whole(0);
-    };
-    file_input::read_file(&mut file, buf)
-}
-
-fn case_unread<E: Print>(error: &E) {
-    let _ = error.write_all(b"shift: the case on standard input could not be read to its end\n");
-}
-
-fn book_unread<E: Print>(error: &E) {
-    let _ = error.write_all(b"shift: types.book could not be read to its end\n");
+    match File::open(files, "types.book") {
+        Ok(mut file) => file_input::read_file(&mut file, buf),
+        Err(_) => Ok(0),
+    }
 }
 
 // Prints the text for a case, with the book that is read now.
-fn print_with_book<F: Files, P: Print, E: Print>(files: &F, out: &P, error: &E, case: &[u8]) {
+fn print_with_book<F: Files, P: Print, E: Print>(
+    files: &F,
+    out: &P,
+    error: &E,
+    case: &[u8],
+) -> io::Result<()> {
     let mut book = [0u8; 4096];
-    let r = read_book(files, &mut book);
-    let Reading::Whole(n) = r else {
-        return book_unread(error);
+    let Ok(n) = read_book(files, &mut book) else {
+        return error.println("shift: types.book could not be read to its end");
     };
-    print_for(out, case, &book[..n]);
+    print_for(out, case, &book[..n])
 }
 
 fn main(rt: HostRuntime) {
     let mut case = [0u8; 4096];
-    let r = file_input::read_file(&mut rt.stdin(), &mut case);
-    let Reading::Whole(n) = r else {
-        return case_unread(&rt.stderr());
+    let Ok(n) = file_input::read_file(&mut rt.stdin(), &mut case) else {
+        let _ = eprintln!(rt; "shift: the case on standard input could not be read to its end");
+        return;
     };
-    print_with_book(&rt, &rt.stdout(), &rt.stderr(), &case[..n]);
+    let _ = print_with_book(&rt, &rt.stdout(), &rt.stderr(), &case[..n]);
 }

@@ -10,7 +10,11 @@ ghost use Rattle.telling.specs.Steps.{Printable, Printed, Measurable, Measured};
 use laying::Answer;
 use out_figures::{Figures, Punctuality};
 
+// In the tables, a word for each train: its planned arrival at its last station.
+const PLANS: u64 = 24;
+
 // What the figures answer: all but the first three fields are 0 if the call was refused.
+// C reads it as lampreysong_train_figures of include/lampreysong.h, so its cases are numbers and a share that is not there is 0.
 #[repr(C)]
 #[derive(Clone, Copy)]
 pub struct TrainFigures {
@@ -33,8 +37,8 @@ pub fn print(tables: &[u64], ws: &[u64], text: &mut [u8]) -> Answer
     requires { Printable tables.now × (32768 ≤ length text.old) }
     ensures { Printed tables.now ws.now text.old result text.new }
 {
-    let trains = words::at(tables, 0) as usize;
-    let last = words::at(tables, 1) as usize;
+    let trains = words::at(tables, words::TRAINS) as usize;
+    let last = words::at(tables, words::LAST_MINUTE) as usize;
     let length = out_listing::write(trains, last, ws, &mut text[..32768]);
     laying::answered(length as u64)
 }
@@ -44,32 +48,23 @@ pub fn measure(tables: &[u64], ws: &[u64], train: u64, limit: u16) -> Figures
     requires { Measurable tables.now ws.now train }
     ensures { Measured tables.now ws.now train limit result }
 {
-    let plan = words::at(tables, 24 + train);
-    let last = words::at(tables, 1);
-    let trains = words::at(tables, 0) as usize;
+    let plan = words::at(tables, PLANS + train);
+    let last = words::at(tables, words::LAST_MINUTE);
+    let trains = words::at(tables, words::TRAINS) as usize;
     let total = out_listing::whole_weight(trains);
     out_figures::figures_of(ws, train, plan, last, total, limit)
 }
 
-fn number_of(p: Punctuality) -> u32
-    ensures { result ≡ punctuality_number (told.case_of p) }
+// The number of a punctuality, and its share, 0 where it has none.
+// The two fields that C reads; punctuality_number and punctuality_value of rules say them, each case by itself.
+fn number_and_share(p: Punctuality) -> (u32, f64)
+    ensures { result ≡ (punctuality_number (told.case_of p), punctuality_value (told.case_of p)) }
 {
     match p {
-        Punctuality::Refused => 0,
-        Punctuality::Never => 1,
-        Punctuality::Always => 2,
-        Punctuality::Share(_) => 3,
-    }
-}
-
-fn value_of(p: Punctuality) -> f64
-    ensures { result ≡ punctuality_value (told.case_of p) }
-{
-    match p {
-        Punctuality::Refused => 0.0,
-        Punctuality::Never => 0.0,
-        Punctuality::Always => 0.0,
-        Punctuality::Share(x) => x,
+        Punctuality::Refused => (0, 0.0),
+        Punctuality::Never => (1, 0.0),
+        Punctuality::Always => (2, 0.0),
+        Punctuality::Share(share) => (3, share),
     }
 }
 
@@ -77,22 +72,20 @@ fn value_of(p: Punctuality) -> f64
 pub fn train_figures(a: Answer, f: Figures) -> TrainFigures
     ensures { result ≡ train_figures a f }
 {
-    let p = f.punctuality;
-    let s = f.shares;
-    let kept = [0u64; 4];
+    let (punctuality, share) = number_and_share(f.punctuality);
     TrainFigures {
         refusal: a.refusal,
         file: a.file,
         place: a.place,
-        punctuality: number_of(p),
+        punctuality,
         zero: 0,
-        share: value_of(p),
-        on_time: s.on_time,
-        late: s.late,
-        not_arrived: s.not_arrived,
+        share,
+        on_time: f.shares.on_time,
+        late: f.shares.late,
+        not_arrived: f.shares.not_arrived,
         lateness: f.sum,
         arrived: f.weight,
-        kept: kept,
+        kept: [0; 4],
     }
 }
 

@@ -1,82 +1,76 @@
-// What the programs that read files from standard input share: the next files of the input, and words of a line. The caller hands in what is read
-// and written: standard input, output and error.
+// What the programs that read files from standard input share: the next files of the input, and why there may be no more.
 #![tactic(auto)]
 
-ghost use Rattle.std.specs.Prelude.{◌≡◌};
+ghost use Rattle.std.specs.Prelude.{◌≡◌, is_ok};
 ghost use Rattle.std.specs.Counts.{IsPrefixLen};
-ghost use Rattle.tool_console.specs.Next.{is_full, is_empty};
+ghost use Rattle.file_input.specs.Reads.{told};
+ghost use Rattle.tool_console.specs.Next.{is_full, brought, is_empty};
 
-use file_input::Reading;
+use file_input::ReadFailed;
+use std::fmt;
 use std::io::Read;
 
+// Why the input's files are not all judged: it could not be read to its end, or it ends within a file.
+#[derive(Clone, Copy, Debug, PartialEq, Eq)]
+pub enum InputError {
+    Unreadable,
+    CutOff,
+}
+
+impl fmt::Display for InputError {
+    fn fmt<W: fmt::Write>(&self, f: &mut fmt::Formatter<W>) -> fmt::Result {
+        match *self {
+            InputError::Unreadable => f.write_str("the input could not be read to its end"),
+            InputError::CutOff => f.write_str("the input ends within a file"),
+        }
+    }
+}
+
 // As many of the buffer's bytes as n says, or all.
-pub fn within(n: usize, buf: &[u8]) -> usize
+fn within(n: usize, buf: &[u8]) -> usize
     ensures { IsPrefixLen result buf.now }
 {
-    if n < buf.len() {
-        return n;
-    }
-    buf.len()
+    n.min(buf.len())
 }
 
-// Says on standard error what could not be read.
-pub fn complain<E: Print>(error: &E, text: &[u8]) -> bool {
-    error.write_all(text).is_ok()
-}
-
-// Whether a reading brought all the bytes that were asked for. Where it did not, that is said on standard error.
-fn brought<E: Print>(error: &E, r: Reading, asked: usize) -> bool
-    ensures { result ≡ is_full r asked }
+// Whether a reading brought all the bytes that were asked for.
+fn brought(reading: Result<usize, ReadFailed>, asked: usize) -> Result<(), InputError>
+    ensures why { result ≡ brought (told reading) asked }
+    ensures full { is_ok result ≡ is_full (told reading) asked }
 {
-    let Reading::Whole(n) = r else {
-        complain(error, b"the input could not be read to its end\n");
-        return false;
-    };
-    if n < asked {
-        complain(error, b"the input ends within a file\n");
-        return false;
+    match reading {
+        Ok(n) if n < asked => Err(InputError::CutOff),
+        Ok(_) => Ok(()),
+        Err(_) => Err(InputError::Unreadable),
     }
-    true
 }
 
 // Whether the input had ended before the reading.
-fn ended(r: Reading) -> bool
-    ensures { result ≡ is_empty r }
+fn ended(reading: Result<usize, ReadFailed>) -> bool
+    ensures { result ≡ is_empty (told reading) }
 {
-    let Reading::Whole(n) = r else {
-        return false;
-    };
-    n == 0
+    reading == Ok(0)
 }
 
-// The next n bytes of the input, as many as the buffer holds: whether they all came.
-pub fn next_bytes<R: Read, E: Print>(input: &mut R, error: &E, n: usize, buf: &mut [u8]) -> bool {
+// The next n bytes of the input, as many as the buffer holds.
+pub fn next_bytes<'b, R: Read>(
+    input: &mut R,
+    n: usize,
+    buf: &'b mut [u8],
+) -> Result<&'b [u8], InputError> {
     let k = within(n, buf);
-    let r = file_input::read_file(input, &mut buf[..k]);
-    brought(error, r, k)
+    let reading = file_input::read_file(input, &mut buf[..k]);
+    brought(reading, k)?;
+    Ok(&buf[..k])
 }
 
-// The sizes of the next files of the input: whether there are any.
-pub fn next_sizes<R: Read, E: Print>(input: &mut R, error: &E, sizes: &mut [u8]) -> bool {
-    let r = file_input::read_file(input, sizes);
-    if ended(r) {
-        return false;
+// The sizes of the next files of the input, if there are any.
+pub fn next_sizes<R: Read, const N: usize>(input: &mut R) -> Result<Option<[u8; N]>, InputError> {
+    let mut sizes = [0; N];
+    let reading = file_input::read_file(input, &mut sizes);
+    if ended(reading) {
+        return Ok(None);
     }
-    brought(error, r, sizes.len())
-}
-
-pub fn word<P: Print>(out: &P, text: &[u8]) -> bool {
-    out.write_all(text).is_ok()
-}
-
-pub fn number<P: Print>(out: &P, n: usize) -> bool {
-    out.print(n).is_ok()
-}
-
-pub fn space<P: Print>(out: &P) -> bool {
-    word(out, b" ")
-}
-
-pub fn line_end<P: Print>(out: &P) -> bool {
-    word(out, b"\n")
+    brought(reading, N)?;
+    Ok(Some(sizes))
 }

@@ -3,55 +3,48 @@
 // to its end, or that ends within a pair, is said so on standard error, and that pair is not judged.
 #![tactic(auto)]
 
-use file_lookup::Files;
+use file_fields::refusals::Refusal;
+use std::io;
 use std::io::Read;
+use tool_console::InputError;
 
-fn print_refusal<P: Print>(out: &P, number: usize, file: usize, place: usize) -> bool {
-    tool_console::number(out, number);
-    tool_console::space(out);
-    tool_console::number(out, file);
-    tool_console::space(out);
-    tool_console::number(out, place);
-    tool_console::line_end(out)
+fn print_refusal<P: Print>(out: &P, refusal: Refusal) -> io::Result<()> {
+    let number = refusal.fault.number();
+    println!(out; "{number} {} {}", refusal.file, refusal.place)
 }
 
-fn print_verdict<P: Print>(out: &P, case: &[u8], book: &[u8]) -> bool {
-    let f = file_lookup::read_files(case, book);
-    match f {
-        Files::Sound(_) => tool_console::word(out, b"accepted\n"),
-        Files::Unsound(number, file, place) => print_refusal(out, number, file, place),
+fn print_verdict<P: Print>(out: &P, case: &[u8], book: &[u8]) -> io::Result<()> {
+    match file_lookup::read_files(case, book) {
+        Ok(_) => println!(out; "accepted"),
+        Err(refusal) => print_refusal(out, refusal),
     }
 }
 
-// Judges the next pair, and answers whether there was one.
-fn judge_pair<R: Read, P: Print, E: Print>(input: &mut R, out: &P, error: &E) -> bool {
-    let mut sizes = [0u8; 4];
-    if !tool_console::next_sizes(input, error, &mut sizes) {
-        return false;
-    }
-    let a = file_fields::word(&sizes, 0);
-    let b = file_fields::word(&sizes, 2);
+// Judges the next pair, and answers whether there was one whose line was printed.
+fn judge_pair<R: Read, P: Print>(input: &mut R, out: &P) -> Result<bool, InputError> {
+    let Some(sizes) = tool_console::next_sizes::<R, 4>(input)? else {
+        return Ok(false);
+    };
     let mut case = [0u8; 4096];
     let mut book = [0u8; 4096];
-    if !tool_console::next_bytes(input, error, a, &mut case) {
-        return false;
-    }
-    if !tool_console::next_bytes(input, error, b, &mut book) {
-        return false;
-    }
-    let n = tool_console::within(a, &case);
-    let m = tool_console::within(b, &book);
-    print_verdict(out, &case[..n], &book[..m])
+    let case = tool_console::next_bytes(input, file_fields::word(&sizes, 0), &mut case)?;
+    let book = tool_console::next_bytes(input, file_fields::word(&sizes, 2), &mut book)?;
+    Ok(print_verdict(out, case, book).is_ok())
 }
 
-// A proved loop ends: its turns are counted, and no input uses them up.
-fn main(rt: HostRuntime) {
-    let mut input = rt.stdin();
-    let out = rt.stdout();
-    let error = rt.stderr();
+// Judges pairs until there are no more. A proved loop ends: its turns are counted, and no input uses them up.
+// The same loop stands in tool_view: shared, it would be a public function that promises nothing, since no contract here says what was printed.
+fn judge_all<R: Read, P: Print>(input: &mut R, out: &P) -> Result<(), InputError> {
     for _ in 0..u64::MAX {
-        if !judge_pair(&mut input, &out, &error) {
-            return;
+        if !judge_pair(input, out)? {
+            break;
         }
+    }
+    Ok(())
+}
+
+fn main(rt: HostRuntime) {
+    if let Err(e) = judge_all(&mut rt.stdin(), &rt.stdout()) {
+        let _ = eprintln!(rt; "{e}");
     }
 }

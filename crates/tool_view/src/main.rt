@@ -3,51 +3,21 @@
 // its end, or that ends within a file, is said so on standard error, and that file is not viewed.
 #![tactic(auto)]
 
-use file_fields::{Field, refusals};
+use file_fields::Field;
+use file_fields::refusals::Fault;
 use file_viewer::Viewing;
 use std::io::Read;
+use tool_console::InputError;
 
-fn print_field<P: Print>(out: &P, place: usize, tag: usize, size: usize) -> bool {
-    tool_console::number(out, place);
-    tool_console::space(out);
-    tool_console::number(out, tag);
-    tool_console::space(out);
-    tool_console::number(out, size);
-    tool_console::line_end(out)
-}
-
-fn print_ended<P: Print>(out: &P, place: usize) -> bool {
-    tool_console::word(out, b"ended ");
-    tool_console::number(out, place);
-    tool_console::line_end(out)
-}
-
-fn print_refusal<P: Print>(out: &P, place: usize) -> bool {
-    tool_console::word(out, b"refused ");
-    tool_console::number(out, refusals::OVERRUN);
-    tool_console::space(out);
-    tool_console::number(out, place);
-    tool_console::line_end(out)
-}
-
-// Prints what was given, and answers whether it was a field.
+// Prints what was given, and answers whether it was a field. A line that can't be written is left out.
 fn print_viewing<P: Print>(out: &P, v: Viewing) -> bool {
     let place = v.place;
-    let field = v.field;
-    match field {
-        Field::Whole { tag, size, end: _ } => {
-            print_field(out, place, tag, size);
-            true
-        }
-        Field::Ended => {
-            print_ended(out, place);
-            false
-        }
-        Field::Overrun => {
-            print_refusal(out, place);
-            false
-        }
-    }
+    let _ = match v.field {
+        Field::Whole { tag, size, .. } => println!(out; "{place} {tag} {size}"),
+        Field::Ended => println!(out; "ended {place}"),
+        Field::Overrun => println!(out; "refused {} {place}", Fault::Overrun.number()),
+    };
+    matches!(v.field, Field::Whole { .. })
 }
 
 // A file has fewer fields than bytes, so the viewer stays before the turns are over.
@@ -60,29 +30,29 @@ fn print_file<P: Print>(out: &P, file: &[u8]) {
 }
 
 // Views the next file, and answers whether there was one.
-fn view_file<R: Read, P: Print, E: Print>(input: &mut R, out: &P, error: &E) -> bool {
-    let mut size = [0u8; 2];
-    if !tool_console::next_sizes(input, error, &mut size) {
-        return false;
-    }
-    let length = file_fields::word(&size, 0);
+fn view_file<R: Read, P: Print>(input: &mut R, out: &P) -> Result<bool, InputError> {
+    let Some(size) = tool_console::next_sizes::<R, 2>(input)? else {
+        return Ok(false);
+    };
     let mut file = [0u8; 4096];
-    if !tool_console::next_bytes(input, error, length, &mut file) {
-        return false;
-    }
-    let n = tool_console::within(length, &file);
-    print_file(out, &file[..n]);
-    true
+    let file = tool_console::next_bytes(input, file_fields::word(&size, 0), &mut file)?;
+    print_file(out, file);
+    Ok(true)
 }
 
-// A proved loop ends: its turns are counted, and no input uses them up.
-fn main(rt: HostRuntime) {
-    let mut input = rt.stdin();
-    let out = rt.stdout();
-    let error = rt.stderr();
+// Views files until there are no more. A proved loop ends: its turns are counted, and no input uses them up.
+// The same loop stands in tool_judge: shared, it would be a public function that promises nothing, since no contract here says what was printed.
+fn view_all<R: Read, P: Print>(input: &mut R, out: &P) -> Result<(), InputError> {
     for _ in 0..u64::MAX {
-        if !view_file(&mut input, &out, &error) {
-            return;
+        if !view_file(input, out)? {
+            break;
         }
+    }
+    Ok(())
+}
+
+fn main(rt: HostRuntime) {
+    if let Err(e) = view_all(&mut rt.stdin(), &rt.stdout()) {
+        let _ = eprintln!(rt; "{e}");
     }
 }

@@ -1,19 +1,33 @@
 -- `desk::lampreysong_single` meets its contract: refused, or the minute of the run on the case's tables. Assumes nothing.
-use native.Mathlib.Omega.{arith}
+use Rattle.std.proofs.Common.{sym, ap, subst, ◌∙◌, arith}
+use Rattle.file_lookup.specs.Told.{told}
+use Rattle.laying.specs.Steps.{files_answer, Tells}
 use Rattle.desk.specs.Single.{single_tells, single-refused, single-ready, single-small, single-answered}
 use Rattle.desk.proofs.lampreysong_single.Goals as goal
 
-pub refused_files-requires : goal.refused_files-requires
-refused_files-requires c = let e = c.for_single-f.ensures in single_tells c.args.case.now c.args.book.now c.args.choice.now c.args.train e
+pub refused-requires : goal.refused-requires
+refused-requires c =
+    let a = c.args in
+    subst Tells (ap told c.in-Err.is) (single_tells a.case.now a.book.now a.choice.now a.train c.for_single.ensures)
 
-pub returns-in_default : goal.returns-in_default
-returns-in_default c =
-    let e = c.for_single-f.ensures in single-refused c.args.case.now c.args.book.now c.args.choice.now c.args.train e c.in_default.is c.refused_files.ensures
+pub returns-in-Err : goal.returns-in-Err
+returns-in-Err c =
+    let a = c.args in
+    let e = ap told c.in-Err.is in
+    single-refused a.case.now a.book.now a.choice.now a.train c.for_single.ensures e (c.refused.ensures ∙ sym (ap files_answer e))
 
-pub arrival-m-requires : goal.arrival-m-requires
-arrival-m-requires c =
-    let e = c.for_single-f.ensures in let ready = single-ready c.args.case.now c.args.book.now c.args.choice.now c.args.train e c.in-Sound.is in single-small c.args.case.now c.args.book.now c.args.choice.now c.args.train e ready _ (c.fill.ensures.1 ready.of ready.accepted ready.sizes) (λ i. omega (arith, c.shared_slice_known-1.given i)) (λ i. omega (arith, c.shared_slice_known-2-1.given i))
+pub arrival-requires : goal.arrival-requires
+arrival-requires c =
+    let a = c.args in
+    let e = c.for_single.ensures in
+    let ready = single-ready a.case.now a.book.now a.choice.now a.train e (ap told c.in-Ok.is) in
+    single-small a.case.now a.book.now a.choice.now a.train e ready _ (c.fill.ensures.1 ready.of ready.accepted ready.sizes)
+    (λ i. omega (arith, c.shared_slice_known-1.given i)) (λ i. omega (arith, c.shared_slice_known-2-1.given i))
 
-pub returns : goal.returns
-returns c =
-    let e = c.for_single-f.ensures in let ready = single-ready c.args.case.now c.args.book.now c.args.choice.now c.args.train e c.in-Sound.is in single-answered c.args.case.now c.args.book.now c.args.choice.now c.args.train e ready _ (c.fill.ensures.1 ready.of ready.accepted ready.sizes) c.arrival-m.ensures.case c.answered.ensures
+pub returns-in-Ok : goal.returns-in-Ok
+returns-in-Ok c =
+    let a = c.args in
+    let e = c.for_single.ensures in
+    let ready = single-ready a.case.now a.book.now a.choice.now a.train e (ap told c.in-Ok.is) in
+    single-answered a.case.now a.book.now a.choice.now a.train e ready _ (c.fill.ensures.1 ready.of ready.accepted ready.sizes) c.arrival.ensures.case
+    c.answered.ensures

@@ -3,4 +3,4 @@ use Rattle.out_figures.proofs.shares_of.Goals as goal
 
 pub returns : goal.returns
 unfolding shares_in
-returns c = simp (c.share-c.ensures, c.share-b.ensures, c.share-a.ensures)
+returns c = simp (c.share-3.ensures, c.share-2.ensures, c.share.ensures)

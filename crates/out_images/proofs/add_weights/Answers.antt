@@ -6,7 +6,7 @@ use native.Mathlib.Omega.{arith}
 use lib.ListN.{length}
 use lib.Seq.{sets}
 use Rattle.out_images.specs.Rows.{image_of_sums}
-use Rattle.out_images.proofs.Laws.{sums_none, sums-more, sums-filled, sums_weigh}
+use Rattle.out_images.proofs.Laws.{sums_none, capped-min, sums-more, sums-filled, sums_weigh}
 use Rattle.out_images.proofs.add_weights.Goals as goal
 
 pub loop-w-init : goal.loop-w-init
@@ -17,12 +17,12 @@ loop-w-init c =
 pub loop-w-preserved : goal.loop-w-preserved
 loop-w-preserved c =
     let put = c.put_word in
-    let sum = c.capped_sum-sum in
+    let sum = c.saturating_add in
     let got = c.get_word-lent in
     let at = c.loop-w in
     let a = c.args in
     let long : at.w * 8 ≤ length a.out.now = omega arith in
-    let one_more = sums-more a.weights.now a.out.now at.out at.w got.result sum.result long at.invariant.1 got.ensures sum.ensures in
+    let one_more = sums-more a.weights.now a.out.now at.out at.w got.result sum.result long at.invariant.1 got.ensures (sum.ensures ∙ capped-min _) in
     (omega arith, put.ensures ∙ one_more, put.auto.out ∙ at.invariant.2)
 
 pub returns : goal.returns

@@ -1,11 +1,7 @@
--- `out_listing::write` meets its contract. The loop keeps the lines of the first `k` trains written behind the first line, in cleared text. Assumes nothing.
-use Prim.Native.Nat.{◌-◌, ◌≤◌}
-use Rattle.theory_lists.specs.Writes.{Put}
+-- `out_listing::write` meets its contract. The loop keeps the lines of the first `k` trains put behind the first line, in cleared text. Assumes nothing.
 use Rattle.out_listing.specs.Text.{trains_lines}
+use Rattle.out_listing.specs.Writer.{Adds}
 use Rattle.out_listing.proofs.write.Given as goal
 
 abbrev pub invariant-loop-k : goal.invariant-loop-k
-invariant-loop-k l = (l.k ≤ l.trains) × Put l.initial.text l.initial.r (trains_lines l.whole l.last l.weights l.k) l.r l.text
-
-abbrev pub decreases-loop-k : goal.decreases-loop-k
-decreases-loop-k l = l.trains - l.k
+invariant-loop-k l = Adds l.initial.out.bytes l.initial.out.at (trains_lines l.whole l.last l.weights l.k) l.out.at l.out.bytes

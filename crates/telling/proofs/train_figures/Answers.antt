@@ -2,4 +2,4 @@
 use Rattle.telling.proofs.train_figures.Goals as goal
 
 pub returns : goal.returns
-returns c = rw (c.number_of.ensures, c.value_of.ensures)
+returns c = rw c.number_and_share-punctuality.ensures
