@@ -1,0 +1,7 @@
+-- `rows::copy` has no loop: these are the lines of the one that must-fail/copies-each-word-twice.edit puts there, which takes the dashes off. Assumes nothing.
+-- use Rattle.std.proofs.Common.{◌+◌}
+-- use Rattle.std.proofs.Math.Seq.{slice}
+-- use Rattle.theory_lists.specs.Writes.{Put}
+-- use Rattle.rows.proofs.copy.Given as goal
+-- abbrev pub invariant-loop-i : goal.invariant-loop-i
+-- invariant-loop-i l = Put l.initial.out l.d (slice l.a (l.a + l.i) l.from) (l.d + l.i) l.out
