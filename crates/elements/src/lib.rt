@@ -26,6 +26,7 @@ fn trains(
     requires t_bound { (t < 720) × (e ≤ 64) }
     requires kept { Kept w rows.old × Flagged work.old.notes.now × (w < length rows.old → Noted plan.now.words.now t work.old.notes.now (rows_of (take w rows.old))) }
     ensures keeps { Keeps work.old.bench work.new.bench }
+    ensures notes { work.new.notes.ghost_name ≡ work.old.notes.ghost_name }
     ensures seen { Seen plan.now.words.now t (element_of plan.now.words.now t e (get_or plan.now.words.now 0 0) (read w rows.old weights.old)) result rows.new weights.new work.new.notes.now }
 {
     let n = words::at(plan.words, words::TRAINS);
@@ -77,6 +78,7 @@ fn element(
     requires t_bound { (t < 720) × (e ≤ 64) }
     requires kept { Kept w rows.old × Flagged work.old.notes.now × (w < length rows.old → Noted plan.now.words.now t work.old.notes.now (rows_of (take w rows.old))) }
     ensures keeps { Keeps work.old.bench work.new.bench }
+    ensures notes { work.new.notes.ghost_name ≡ work.old.notes.ghost_name }
     ensures seen { Seen plan.now.words.now t (element_of plan.now.words.now t e (get_or plan.now.words.now 0 0) (read w rows.old weights.old)) result rows.new weights.new work.new.notes.now }
 {
     if work.notes[waiting::ELEMENTS + e as usize] == 0 {
@@ -101,6 +103,7 @@ pub fn elements(
     requires t_bound { t < 720 }
     requires kept { Kept w rows.old × Flagged work.old.notes.now × (w < length rows.old → Noted plan.now.words.now t work.old.notes.now (rows_of (take w rows.old))) }
     ensures keeps { Keeps work.old.bench work.new.bench }
+    ensures notes { work.new.notes.ghost_name ≡ work.old.notes.ghost_name }
     ensures seen { Seen plan.now.words.now t (elements_of plan.now.words.now t 65 (read w rows.old weights.old)) result rows.new weights.new work.new.notes.now }
 {
     let mut v = w;

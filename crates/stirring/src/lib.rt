@@ -43,6 +43,7 @@ fn served(
     requires first_lt_n { (first.row < n) × (n * 2 < length rows.old) × Every (λ x. stirs_of first.key turn.minute first.by x ≡ false) (rows_in first.row rows.old) × (reach_of first.key turn.minute (get_or rows.old (first.row * 2) 0) ≡ true) }
     requires flagged { Flagged work.old.notes.now × Noted plan.now.words.now turn.minute work.old.notes.now (rows_in n rows.old) × Keyed plan.now.words.now turn.minute turn.place turn.train first.key (rows_in n rows.old) × (first.by ≡ get_or work.old.notes.now (turn.train * 128 + turn.place) 0) }
     ensures keeps { Keeps work.old.bench work.new.bench }
+    ensures notes { work.new.notes.ghost_name ≡ work.old.notes.ghost_name }
     ensures seen { Seen plan.now.words.now turn.minute (pass_of plan.now.words.now turn.minute turn.place turn.train (read (n * 2) rows.old weights.old)) result rows.new weights.new work.new.notes.now }
 {
     let s = rows[first.row * 2];
@@ -88,6 +89,7 @@ pub fn visit(
     requires within { Within turn.minute turn.place turn.train }
     requires kept { Kept w rows.old × Flagged work.old.notes.now × (w < length rows.old → Noted plan.now.words.now turn.minute work.old.notes.now (rows_of (take w rows.old))) }
     ensures keeps { Keeps work.old.bench work.new.bench }
+    ensures notes { work.new.notes.ghost_name ≡ work.old.notes.ghost_name }
     ensures seen { Seen plan.now.words.now turn.minute (pass_of plan.now.words.now turn.minute turn.place turn.train (read w rows.old weights.old)) result rows.new weights.new work.new.notes.now }
 {
     if w == rows.len() {

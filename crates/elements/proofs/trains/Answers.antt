@@ -1,5 +1,5 @@
 -- `elements::trains` meets its contract. The invariant: the first j trains in order have passed. Assumes nothing.
-use mathlib.Core.Path.{◌≡◌, sym, ap, ◌∙◌}
+use mathlib.Core.Path.{◌≡◌, refl, sym, ap, ◌∙◌}
 use Prim.Native.Nat.{ℕ, ◌+◌}
 use native.Mathlib.Omega.{arith}
 use lib.ListN.{get_or}
@@ -13,12 +13,12 @@ pub loop-j-init : goal.loop-j-init
 loop-j-init c =
     let s = c.args in
     let p = c.requires.kept in
-    (c.at-n.ensures, keeps_none s.work.now.bench, unseen s.plan.now.words.now s.t s.e s.w s.rows.now s.weights.now s.work.now.notes.now p.0 p.1 p.2 (sym (element-none s.plan.now.words.now s.t s.e (read s.w s.rows.now s.weights.now))))
+    (c.at-n.ensures, keeps_none s.work.now.bench, refl, unseen s.plan.now.words.now s.t s.e s.w s.rows.now s.weights.now s.work.now.notes.now p.0 p.1 p.2 (sym (element-none s.plan.now.words.now s.t s.e (read s.w s.rows.now s.weights.now))))
 
 pub visit-v-requires : goal.visit-v-requires
 visit-v-requires c =
     let l = c.loop-j in
-    let so = l.invariant.2 in
+    let so = l.invariant.3 in
     let b = c.requires.t_bound in
     let small = c.args.plan.now.small in
     record {
@@ -35,10 +35,11 @@ loop-j-preserved c =
     let v = c.visit-v.ensures.seen in (
       l.invariant.0,
       keeps_join l.invariant.1 c.visit-v.ensures.keeps,
+      c.visit-v.ensures.notes ∙ l.invariant.2,
       record {
         outcome = v.outcome
             ∙ ap (λ (k : ℕ). pass_of T s.t s.e k (read l.v l.rows l.weights)) c.at.ensures
-            ∙ ap (pass_of T s.t s.e (get_or T (8 + l.j) 0)) l.invariant.2.outcome
+            ∙ ap (pass_of T s.t s.e (get_or T (8 + l.j) 0)) l.invariant.3.outcome
             ∙ sym (element-more T s.t s.e l.j (read s.w s.rows.now s.weights.now));
         kept = v.kept;
         flagged = v.flagged;
@@ -50,4 +51,4 @@ pub returns : goal.returns
 returns c =
     let l = c.loop-j in
     let e : l.j ≡ get_or c.args.plan.now.words.now 0 0 = omega (arith, l.invariant.0, l.auto.j-end, c.loop-j-test.false) in
-    record { keeps = l.invariant.1; seen = rw (← e) l.invariant.2 }
+    record { keeps = l.invariant.1; notes = l.invariant.2; seen = rw (← e) l.invariant.3 }
