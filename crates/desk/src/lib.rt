@@ -47,7 +47,7 @@ pub fn lampreysong_single<'a>(case: &'a [u8], book: &'a [u8], choice: &[u8], tra
     ensures { SingleGives case.now book.now choice.now train result }
 {
     match file_arguments::for_single(case, book, choice, train as usize) {
-        Err(refusal) => laying::refused(refusal),
+        Err(refusal) => laying::refused_for(refusal),
         Ok(sizes) => {
             let mut tables = [0; 2352];
             file_plan::fill(case, book, sizes, &mut tables);
@@ -67,7 +67,7 @@ pub fn lampreysong_run<'a>(
     ensures { RunGives case.now book.now stop rows.old weights.old result rows.new weights.new }
 {
     if short(rows, weights, &[], 0) {
-        return laying::refused(TOO_SHORT);
+        return laying::refused_for(TOO_SHORT);
     }
     let stop = stop as usize;
     let files = file_arguments::for_stop(case, book, stop);
@@ -89,7 +89,7 @@ pub fn lampreysong_listing<'a>(
     ensures { ListingGives case.now book.now rows.old weights.old text.old result rows.new weights.new text.new }
 {
     if short(rows, weights, text, 32768) {
-        return laying::refused(TOO_SHORT);
+        return laying::refused_for(TOO_SHORT);
     }
     let files = file_lookup::read_files(case, book);
     let last = file_fields::word(case, 3);
@@ -106,7 +106,7 @@ pub fn lampreysong_listing<'a>(
         weights,
     ) {
         out_images::clear(text, 32768);
-        return laying::refused(refusal);
+        return laying::refused_for(refusal);
     }
     telling::print(&tables, &ws, text)
 }
@@ -123,7 +123,7 @@ pub fn lampreysong_figures<'a>(
     ensures { FiguresGives case.now book.now train limit rows.old weights.old result rows.new weights.new }
 {
     if short(rows, weights, &[], 0) {
-        return telling::refused_figures(laying::refused(TOO_SHORT));
+        return telling::refused_figures(laying::refused_for(TOO_SHORT));
     }
     let files = file_arguments::for_train(case, book, train as usize);
     let last = file_fields::word(case, 3);
@@ -139,7 +139,7 @@ pub fn lampreysong_figures<'a>(
         rows,
         weights,
     ) {
-        return telling::refused_figures(laying::refused(refusal));
+        return telling::refused_figures(laying::refused_for(refusal));
     }
     let figures = telling::measure(&tables, &ws, train, limit);
     telling::train_figures(laying::answered(0), figures)
@@ -174,12 +174,12 @@ fn begin_plain<'a>(
     ensures { Begun case.now book.now stop weights.old result weights.new }
 {
     if weights.len() < 40320 {
-        return Err(laying::refused(TOO_SHORT));
+        return Err(laying::refused_for(TOO_SHORT));
     }
     match file_arguments::for_stop(case, book, stop as usize) {
         Err(refusal) => {
             out_images::clear(weights, 40320);
-            Err(laying::refused(refusal))
+            Err(laying::refused_for(refusal))
         }
         Ok(sizes) => Ok(sizes),
     }

@@ -8,7 +8,7 @@ ghost use Rattle.rules.specs.Calls.{filled};
 ghost use Rattle.file_lookup.specs.Told.{told};
 ghost use Rattle.laying.specs.Answers.{refused_with, answered};
 ghost use Rattle.laying.specs.Told.{refusal_of, InReach, answer_to, Reached};
-ghost use Rattle.laying.specs.Steps.{Begins, Start, run_of, Ran, Filled, Laid};
+ghost use Rattle.laying.specs.Steps.{Fits, Begins, Start, run_of, Ran, Filled, Laid};
 
 use file_fields::refusals::{Fault, Refusal};
 use file_lookup::Sizes;
@@ -34,18 +34,27 @@ const NO_ROOM: Refusal = Refusal {
     place: 0,
 };
 
-// A refusal as an answer.
+// A refusal as an answer, by its number, file and place.
+pub fn refused(number: usize, file: usize, place: usize) -> Answer
+    requires { Fits number file place }
+    ensures { result ≡ refused_with (record { number = number; file = file; place = place }) }
+{
+    Answer {
+        refusal: number as u16,
+        file: file as u16,
+        place: place as u32,
+        value: 0,
+    }
+}
+
+// A refusal of the files, the arguments or the run as an answer.
 // That file and place fit is a clause: it is shown where a reading ends (refused-place), not where each Refusal is built, so no field can say it.
-pub fn refused(refusal: Refusal) -> Answer
+pub fn refused_for(refusal: Refusal) -> Answer
     requires { InReach refusal }
     ensures { result ≡ refused_with (refusal_of refusal) }
 {
-    Answer {
-        refusal: refusal.fault.number(),
-        file: refusal.file as u16,
-        place: refusal.place as u32,
-        value: 0,
-    }
+    let number = usize::from(refusal.fault.number());
+    refused(number, refusal.file, refusal.place)
 }
 
 pub fn answered(value: u64) -> Answer
@@ -67,7 +76,7 @@ pub fn answer_to(outcome: Result<u64, Refusal>) -> Answer
 {
     match outcome {
         Ok(value) => answered(value),
-        Err(refusal) => refused(refusal),
+        Err(refusal) => refused_for(refusal),
     }
 }
 

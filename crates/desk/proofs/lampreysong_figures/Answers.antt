@@ -11,7 +11,7 @@ use Rattle.desk.proofs.lampreysong_figures.Goals as goal
 
 pub returns-then-short : goal.returns-then-short
 returns-then-short c =
-    figures-short c.args.case.now c.args.book.now c.args.train c.args.limit c.refused.ensures c.refused_figures.ensures (sym c.short.ensures ∙ c.if-short.true)
+    figures-short c.args.case.now c.args.book.now c.args.train c.args.limit c.refused_for.ensures c.refused_figures.ensures (sym c.short.ensures ∙ c.if-short.true)
 
 pub lay-requires : goal.lay-requires
 lay-requires c =
@@ -23,15 +23,15 @@ lay-requires c =
       none = refl;
     }
 
-pub refused-requires-in-Err : goal.refused-requires-in-Err
-refused-requires-in-Err c = subst (Reached {A = ℕ}) c.in-Err.is c.lay.ensures.reached
+pub refused_for-requires-in-Err : goal.refused_for-requires-in-Err
+refused_for-requires-in-Err c = subst (Reached {A = ℕ}) c.in-Err.is c.lay.ensures.reached
 
 pub returns-in-Err : goal.returns-in-Err
 returns-in-Err c =
     let a = c.args in
     figures-refused a.case.now a.book.now a.train a.limit (train_runs a.case.now a.book.now c.word-last.ensures.0 a.train c.for_train-files.ensures)
     (sym c.short.ensures ∙ c.if-short.false) c.lay.ensures.laid (was_refused c.in-Err.is c.lay.ensures.reached)
-    (c.refused_figures-in-Err.ensures ∙ ap (λ p. train_figures p no_figures) (c.refused-in-Err.ensures ∙ refusal_told c.in-Err.is))
+    (c.refused_figures-in-Err.ensures ∙ ap (λ p. train_figures p no_figures) (c.refused_for-in-Err.ensures ∙ refusal_told c.in-Err.is))
 
 pub measure-figures-requires : goal.measure-figures-requires
 measure-figures-requires c =

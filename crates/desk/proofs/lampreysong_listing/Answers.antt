@@ -8,7 +8,7 @@ use Rattle.desk.specs.Ends.{long-rows, long-weights, long-text, was_refused, ref
 use Rattle.desk.proofs.lampreysong_listing.Goals as goal
 
 pub returns-then-short : goal.returns-then-short
-returns-then-short c = listing-short c.args.case.now c.args.book.now c.args.text.now c.refused.ensures (sym c.short.ensures ∙ c.if-short.true)
+returns-then-short c = listing-short c.args.case.now c.args.book.now c.args.text.now c.refused_for.ensures (sym c.short.ensures ∙ c.if-short.true)
 
 pub lay-requires : goal.lay-requires
 lay-requires c =
@@ -20,8 +20,8 @@ lay-requires c =
       none = refl;
     }
 
-pub refused-requires-in-Err : goal.refused-requires-in-Err
-refused-requires-in-Err c = subst (Reached {A = ℕ}) c.in-Err.is c.lay.ensures.reached
+pub refused_for-requires-in-Err : goal.refused_for-requires-in-Err
+refused_for-requires-in-Err c = subst (Reached {A = ℕ}) c.in-Err.is c.lay.ensures.reached
 
 pub clear-requires : goal.clear-requires
 clear-requires c =
@@ -33,7 +33,7 @@ returns-in-Err c =
     let a = c.args in
     listing-refused a.case.now a.book.now a.text.now (whole_runs a.case.now a.book.now c.word-last.ensures.0 c.read_files-files.ensures)
     (sym c.short.ensures ∙ c.if-short.false) c.lay.ensures.laid (was_refused c.in-Err.is c.lay.ensures.reached)
-    (c.refused-in-Err.ensures ∙ refusal_told c.in-Err.is) c.clear.ensures
+    (c.refused_for-in-Err.ensures ∙ refusal_told c.in-Err.is) c.clear.ensures
 
 pub print-requires : goal.print-requires
 print-requires c =

@@ -5,7 +5,7 @@ use Rattle.desk.specs.Ends.{run_short, run-laid, long-rows, long-weights}
 use Rattle.desk.proofs.lampreysong_run.Goals as goal
 
 pub returns-then-short : goal.returns-then-short
-returns-then-short c = run_short c.args.case.now c.args.book.now c.args.stop c.refused.ensures (sym c.short.ensures ∙ c.if-short.true)
+returns-then-short c = run_short c.args.case.now c.args.book.now c.args.stop c.refused_for.ensures (sym c.short.ensures ∙ c.if-short.true)
 
 pub lay-laid-requires : goal.lay-laid-requires
 lay-laid-requires c =

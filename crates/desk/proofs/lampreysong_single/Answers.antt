@@ -5,8 +5,8 @@ use Rattle.laying.specs.Steps.{files_answer, Tells}
 use Rattle.desk.specs.Single.{single_tells, single-refused, single-ready, single-small, single-answered}
 use Rattle.desk.proofs.lampreysong_single.Goals as goal
 
-pub refused-requires : goal.refused-requires
-refused-requires c =
+pub refused_for-requires : goal.refused_for-requires
+refused_for-requires c =
     let a = c.args in
     subst Tells (ap told c.in-Err.is) (single_tells a.case.now a.book.now a.choice.now a.train c.for_single.ensures)
 
@@ -14,7 +14,7 @@ pub returns-in-Err : goal.returns-in-Err
 returns-in-Err c =
     let a = c.args in
     let e = ap told c.in-Err.is in
-    single-refused a.case.now a.book.now a.choice.now a.train c.for_single.ensures e (c.refused.ensures ∙ sym (ap files_answer e))
+    single-refused a.case.now a.book.now a.choice.now a.train c.for_single.ensures e (c.refused_for.ensures ∙ sym (ap files_answer e))
 
 pub arrival-requires : goal.arrival-requires
 arrival-requires c =

@@ -6,8 +6,8 @@ use Rattle.laying.proofs.answer_to.Goals as goal
 pub returns-in-Ok : goal.returns-in-Ok
 returns-in-Ok c = c.answered.ensures ∙ sym (ap answer_to c.in-Ok.is)
 
-pub refused-requires : goal.refused-requires
-refused-requires c = subst (Reached {A = ℕ}) c.in-Err.is c.requires
+pub refused_for-requires : goal.refused_for-requires
+refused_for-requires c = subst (Reached {A = ℕ}) c.in-Err.is c.requires
 
 pub returns-in-Err : goal.returns-in-Err
-returns-in-Err c = c.refused.ensures ∙ sym (ap answer_to c.in-Err.is)
+returns-in-Err c = c.refused_for.ensures ∙ sym (ap answer_to c.in-Err.is)
