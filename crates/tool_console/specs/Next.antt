@@ -1,5 +1,5 @@
 -- What a reading says of the next files of the input. Assumes nothing: these are definitions.
-use Rattle.std.specs.Prelude.{Bool, false, ℕ, nat_lt, leb, eqb, if◌then◌else◌, Result, Ok, Err}
+use Rattle.std.specs.Prelude.{Bool, false, ℕ, List, codes, nat_lt, leb, eqb, if◌then◌else◌, Result, Ok, Err}
 use Rattle.file_input.specs.Reads.{Reading}
 use Rattle.file_input.specs.Reads.Reading.{Whole, Failed}
 use Rattle.tool_console.specs.declared.InputError.{InputError}
@@ -14,6 +14,11 @@ is_full Failed asked = false
 abbrev pub brought : Reading → ℕ → Result (Unit {0}) InputError
 brought (Whole n) asked = if nat_lt n asked then Err CutOff else Ok tt
 brought Failed asked = Err Unreadable
+
+-- what is said of it
+abbrev pub said_of : InputError → List ℕ
+said_of Unreadable = codes "the input could not be read to its end"
+said_of CutOff = codes "the input ends within a file"
 
 -- the input had ended before the reading
 abbrev pub is_empty : Reading → Bool

@@ -18,6 +18,11 @@ pub enum InputError {
 }
 
 impl fmt::Display for InputError {
+    ghost use Rattle.std.specs.Prelude.{Some};
+    ghost use Rattle.tool_console.specs.Next.{said_of};
+
+    ghost output = { λ e. Some (said_of e) };
+
     fn fmt<W: fmt::Write>(&self, f: &mut fmt::Formatter<W>) -> fmt::Result {
         match *self {
             InputError::Unreadable => f.write_str("the input could not be read to its end"),
@@ -27,7 +32,7 @@ impl fmt::Display for InputError {
 }
 
 // As many of the buffer's bytes as n says, or all.
-fn within(n: usize, buf: &[u8]) -> usize
+pub fn within(n: usize, buf: &[u8]) -> usize
     ensures { IsPrefixLen result buf.now }
 {
     n.min(buf.len())
@@ -64,13 +69,12 @@ pub fn next_bytes<'b, R: Read>(
     Ok(&buf[..k])
 }
 
-// The sizes of the next files of the input, if there are any.
-pub fn next_sizes<R: Read, const N: usize>(input: &mut R) -> Result<Option<[u8; N]>, InputError> {
-    let mut sizes = [0; N];
-    let reading = file_input::read_file(input, &mut sizes);
+// The sizes of the next files of the input, as many bytes as are lent: whether there are any.
+pub fn next_sizes<R: Read>(input: &mut R, sizes: &mut [u8]) -> Result<bool, InputError> {
+    let reading = file_input::read_file(input, sizes);
     if ended(reading) {
-        return Ok(None);
+        return Ok(false);
     }
-    brought(reading, N)?;
-    Ok(Some(sizes))
+    brought(reading, sizes.len())?;
+    Ok(true)
 }

@@ -22,9 +22,10 @@ fn print_verdict<P: Print>(out: &P, case: &[u8], book: &[u8]) -> io::Result<()> 
 
 // Judges the next pair, and answers whether there was one whose line was printed.
 fn judge_pair<R: Read, P: Print>(input: &mut R, out: &P) -> Result<bool, InputError> {
-    let Some(sizes) = tool_console::next_sizes::<R, 4>(input)? else {
+    let mut sizes = [0; 4];
+    if !tool_console::next_sizes(input, &mut sizes)? {
         return Ok(false);
-    };
+    }
     let mut case = [0u8; 4096];
     let mut book = [0u8; 4096];
     let case = tool_console::next_bytes(input, file_fields::word(&sizes, 0), &mut case)?;

@@ -31,9 +31,10 @@ fn print_file<P: Print>(out: &P, file: &[u8]) {
 
 // Views the next file, and answers whether there was one.
 fn view_file<R: Read, P: Print>(input: &mut R, out: &P) -> Result<bool, InputError> {
-    let Some(size) = tool_console::next_sizes::<R, 2>(input)? else {
+    let mut size = [0; 2];
+    if !tool_console::next_sizes(input, &mut size)? {
         return Ok(false);
-    };
+    }
     let mut file = [0u8; 4096];
     let file = tool_console::next_bytes(input, file_fields::word(&size, 0), &mut file)?;
     print_file(out, file);
