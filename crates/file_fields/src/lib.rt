@@ -29,7 +29,12 @@ pub fn byte(b: &[u8], i: usize) -> usize
 pub fn word(b: &[u8], i: usize) -> usize
     ensures { (result ≡ word b.now i) × (result < 65536) }
 {
-    byte(b, i) * 256 + byte(b, i.saturating_add(1))
+    // Within the file i + 1 is a number, so the processor reads both bytes at once; `saturating_add` would keep it from that.
+    if i < b.len() {
+        byte(b, i) * 256 + byte(b, i + 1)
+    } else {
+        0
+    }
 }
 
 // The field at a place; it judges no tag and no length.

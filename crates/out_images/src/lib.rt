@@ -42,8 +42,16 @@ fn get_word(out: &[u8], at: usize) -> u64
     requires { at + 8 ≤ length out.now }
     ensures { result ≡ number_in (take 8 (drop at out.now)) }
 {
-    let mut word = [0; 8];
-    word.copy_from_slice(&out[at..at + 8]);
+    let word = [
+        out[at],
+        out[at + 1],
+        out[at + 2],
+        out[at + 3],
+        out[at + 4],
+        out[at + 5],
+        out[at + 6],
+        out[at + 7],
+    ];
     u64::from_be_bytes(word)
 }
 
